@@ -1,0 +1,16 @@
+pub mod Loads
+pub mod Crowds
+pub mod Ranks
+pub mod Splits
+pub mod Bridge
+pub mod Moves
+pub mod Inserts
+pub mod Edits
+pub mod Rooms
+pub mod ReadBack
+pub mod Stops
+pub mod Bags
+pub mod Instance
+pub mod Bounds
+pub mod Sorts
+pub mod Passes
