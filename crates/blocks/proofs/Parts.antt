@@ -44,3 +44,12 @@ slots-apart r s k ne =
     (cases-order (k % 64) (s % 64)))
     (λ o. ⊎-elim (λ (g : k / 64 < s / 64). inl (omega (arith, next (k / 64) (s / 64) (r + 3) g))) (λ (g : s / 64 < k / 64). inr (omega (arith, next (s / 64) (k / 64) (r + 3) g))) o)
     (cases-order (k / 64) (s / 64))
+
+-- the words of a block below the last, and the field of a slot below the last, lie within the words
+pub head-inside : (r b blocks m : ℕ) → b < blocks → m < 3 → wordOf r b m < blocks * (r + 3)
+head-inside r b blocks m l g = omega (arith, next b blocks (r + 3) l)
+
+pub slot-inside : (r s blocks : ℕ) → s < 64 * blocks → placeOf r s + r ≤ 64 * (blocks * (r + 3))
+slot-inside r s blocks l =
+    let b : s / 64 < blocks = omega arith in
+    omega (arith, next (s / 64) blocks (r + 3) b, row-room s r)

@@ -14,9 +14,9 @@ use Rattle.std.proofs.shelf.Filters.{length-kept-by-more}
 use Rattle.std.proofs.shelf.Tests.{cases-lt, cases-eq, cases-order, cond-both, cond-true, cond-false, eq-eqb, ne-eqb, lt-ltb, le-ltb, le-leb, lt-leb, eqb-true, eqb-false}
 use Rattle.layout.specs.Rule.{bit, quotient, remainder, Sorted, Entry, laid, at, others, runendAt, remainderAt, offsetAt, many, manyFrom, occupiedAt, Roomy}
 use Rattle.layout.proofs.Splits.{quotient-mono, upper}
-use Rattle.layout.proofs.Bridge.{after, after-mono, at-skip, at-under, late, empty}
+use Rattle.layout.proofs.Bridge.{after, after-mono, after-append, after-more, at-skip, at-under, late, empty}
 use Rattle.layout.proofs.Bounds.{rises}
-use Rattle.layout.proofs.Rooms.{room-load-law}
+use Rattle.layout.proofs.Rooms.{room-load-law, room-after}
 
 -- A row that is `full` below n and 0 from there on, after a write of v at s: it is `full` below s + 1, if `full` has v at s and is 0 between.
 pub advance : (full f g : ℕ → ℕ) (n s v : ℕ) → n ≤ s → full s ≡ v → ((k : ℕ) → n ≤ k → k < s → full k ≡ 0)
@@ -126,3 +126,14 @@ quotients-below slots r ps s room = none ps (room-load-law slots r ps s .0 room 
         (λ (l : quotient r q < slots). (l, none qs (ap length (sym (cond-false (leb slots (quotient r q)) (q ∷ upper r qs slots) (upper r qs slots) (lt-leb slots (quotient r q) l))) ∙ e)))
         (λ (l : slots ≤ quotient r q). absurd (omega (arith, ap length (sym (cond-true (leb slots (quotient r q)) (q ∷ upper r qs slots) (upper r qs slots) (le-leb slots (quotient r q) l))) ∙ e)))
         (cases-lt (quotient r q) slots)
+
+-- the slot after some of them is not past the slot after all
+pub next-below : (r : ℕ) (ps : List ℕ) (i : ℕ) → nextOf r ps i ≤ after r 0 ps
+next-below r ps i =
+    let e = ap (after r 0) (take-append-drop i ps) in
+    omega (arith, after-append r 0 (take i ps) (drop i ps), after-mono r (nextOf r ps i) (drop i ps))
+
+-- with room for all, the slot of each and its quotient lie below the slots
+pub slot-below : (slots r : ℕ) (ps : List ℕ) → Sorted ps → Roomy slots r ps → (i : ℕ) → i < length ps → slotOf r ps i < slots
+slot-below slots r ps s room i l =
+    omega (arith, after-more r ps i l, next-below r ps (i + 1), room-after slots r ps s .0 room)

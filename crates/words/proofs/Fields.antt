@@ -19,17 +19,20 @@ field-lt n p k = mod-lt (n / 2 ^ p) (pow-pos k)
 pub bit-lt : (n p : ℕ) → bitAt n p < 2
 bit-lt n p = field-lt n p 1
 
--- a number has no bit past its width
-pub bit-past : (n k p : ℕ) → n < 2 ^ k → k ≤ p → bitAt n p ≡ 0
-bit-past n k p h l = ap (λ x. x % 2) (div-eq-of-lt (lt-of-lt-of-le h (pow-mono l)))
+-- a number has nothing past its width
+pub shr-past : (n k p : ℕ) → n < 2 ^ k → k ≤ p → n / 2 ^ p ≡ 0
+shr-past n k p h l = div-eq-of-lt (lt-of-lt-of-le h (pow-mono l))
+
+-- the low k bits of the low w bits
+pub low-low : (n w k : ℕ) → k ≤ w → n % 2 ^ w % 2 ^ k ≡ n % 2 ^ k
+low-low n w k l =
+    let e : (w - k) + k ≡ w = omega arith in
+    subst (λ y. n % 2 ^ y % 2 ^ k ≡ n % 2 ^ k) e (mod-mod-pow n (w - k) k)
 
 -- a field lies within the low bits that hold it
 pub field-low : (n q m w : ℕ) → q + m ≤ w → field (n % 2 ^ w) q m ≡ field n q m
 field-low n q m w l =
-    let e : (w - (m + q)) + (m + q) ≡ w = omega arith in
-    sym (field-mod (n % 2 ^ w) m q)
-    ∙ ap (λ x. x / 2 ^ q) (subst (λ y. n % 2 ^ y % 2 ^ (m + q) ≡ n % 2 ^ (m + q)) e (mod-mod-pow n (w - (m + q)) (m + q)))
-    ∙ field-mod n m q
+    sym (field-mod (n % 2 ^ w) m q) ∙ ap (λ x. x / 2 ^ q) (low-low n w (m + q) (omega arith)) ∙ field-mod n m q
 
 -- a field of what stands from place p on
 pub field-shr : (n p q m : ℕ) → field (n / 2 ^ p) q m ≡ field n (p + q) m

@@ -28,11 +28,26 @@ impl Width {
     }
 }
 
+/// `w` moved down by `i` places: 0 where that is the whole word or more.
+fn down(w: u64, i: u32) -> u64
+    ensures { λ r. ⌜ r ≡ w / 2 ^ i ⌝ }
+{
+    if i < 64 { w >> i } else { 0 }
+}
+
 /// Whether the bit of `w` at place `i` is set: past the word none is.
 pub fn bit(w: u64, i: u32) -> bool
     ensures { λ r. ⌜ r ≡ eqb (bitAt w i) 1 ⌝ }
 {
-    i < 64 && (w >> i) & 1 == 1
+    down(w, i) % 2 == 1
+}
+
+/// `w` with the bit at place `i` made `v`, and every other bit as it was.
+fn put_bit(w: u64, i: u32, v: u64) -> u64
+    requires { ⌜ i < 64 ⌝ ∗ ⌜ v < 2 ⌝ }
+    ensures { λ r. ⌜ ((k : ℕ) → bitAt r k ≡ cond (eqb k i) v (bitAt w k)) ⌝ }
+{
+    (w & !(1 << i)) | (v << i)
 }
 
 /// `w` with the bit at place `i` made `b`, and every other bit as it was: `w` itself where `i` is past the word.
@@ -40,7 +55,7 @@ pub fn with_bit(w: u64, i: u32, b: bool) -> u64
     ensures { λ r. ⌜ ((k : ℕ) → k < 64 → bitAt r k ≡ cond (eqb k i) (cond b 1 0) (bitAt w k)) ⌝ }
 {
     if i < 64 {
-        (w & !(1 << i)) | (u64::from(b) << i)
+        put_bit(w, i, u64::from(b))
     } else {
         w
     }
@@ -103,6 +118,20 @@ fn pair(words: &[u64], place: usize) -> u128
     ((word(words, j + 1) as u128) << 64) | word(words, j) as u128
 }
 
+/// The 64 bits of the row from `place` on: its low `k` bits are the field of `k` bits there.
+fn window(words: &[u64], place: usize) -> u64
+    ensures { λ r. ⌜ ((k : ℕ) → k ≤ 64 → r % 2 ^ k ≡ field (rowOf (now (words .entry))) place k) ⌝ }
+{
+    ((pair(words, place) >> (place % 64)) % (1 << 64)) as u64
+}
+
+/// The low bits of `n`, as many as a field of that width has.
+fn low(n: u64, width: Width) -> u32
+    ensures { λ r. ⌜ r ≡ n % 2 ^ (width .bits) ⌝ }
+{
+    (n & ((1 << width.bits) - 1)) as u32
+}
+
 /// Writes the low half of `v` into the word at `j` and the high half into the next one, if there is one.
 fn set_pair(words: &mut [u64], j: usize, v: u128)
     requires { ⌜ j < length (now words) ⌝ }
@@ -118,7 +147,7 @@ fn set_pair(words: &mut [u64], j: usize, v: u128)
 pub fn field(words: &[u64], place: usize, width: Width) -> u32
     ensures { λ r. ⌜ r ≡ field (rowOf (now (words .entry))) place (width .bits) ⌝ }
 {
-    ((pair(words, place) >> (place % 64)) & ((1 << width.bits) - 1)) as u32
+    low(window(words, place), width)
 }
 
 /// Writes the low bits of `v` into the field that begins at `place`, and leaves every other bit as it was:
@@ -134,8 +163,11 @@ pub fn set_field(words: &mut [u64], place: usize, width: Width, v: u32)
     if last < words.len() {
         let both = pair(words, place);
         let mask: u128 = (1 << width.bits) - 1;
-        let low = v as u128 & mask;
-        set_pair(words, j, (both & !(mask << at)) | (low << at));
+        set_pair(
+            words,
+            j,
+            (both & !(mask << at)) | ((low(v as u64, width) as u128) << at),
+        );
     }
 }
 

@@ -1,0 +1,4 @@
+/// A
+pub struct Filter {
+    a: u8,
+}

@@ -1,0 +1,3 @@
+pub mod Glyphs
+pub mod Hashing
+pub mod Turns
