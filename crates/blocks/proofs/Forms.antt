@@ -22,7 +22,7 @@ use Rattle.layout.specs.Rule.{bit, quotient, remainder, sorted, Entry, laid, la
 use Rattle.layout.specs.Format.{rowBit, blockWord, filterWords}
 use Rattle.layout.specs.Laws.{Within}
 use Rattle.layout.proofs.Inserts.{sorted-sorted}
-use Rattle.layout.proofs.Rooms.{count-sorted}
+use Rattle.layout.proofs.Formats.{occupied-sorted}
 use Rattle.layout.proofs.Bounds.{within-law}
 use Rattle.blocks.specs.Views.{wordOf, placeOf, occupiedIn, runendIn, offsetIn, remainderIn, Shows}
 use Rattle.blocks.proofs.Parts.{next, row-room}
@@ -35,7 +35,7 @@ cond-below : (b : Bool) (x y n : ℕ) → x < n → y < n → cond b x y < n
 cond-below true x y n h k = h
 cond-below false x y n h k = k
 
-bit-of-none : (i : ℕ) → bitAt 0 i ≡ 0
+pub bit-of-none : (i : ℕ) → bitAt 0 i ≡ 0
 bit-of-none i = ap (λ x. x % 2) (zero-div (2 ^ i))
 
 -- what all f are below, any slot is below
@@ -50,9 +50,6 @@ runend-two r es s = at-below 2 (λ p later. bit (others r (quotient r p) later))
 remainder-small : (r : ℕ) (es : List Entry) (s : ℕ) → remainderAt r es s < 2 ^ r
 unfolding remainder
 remainder-small r es s = at-below (2 ^ r) (λ p later. remainder r p) (pow-pos r) (λ p later. mod-lt p (pow-pos r)) es s
-
-occupied-sorted : (r : ℕ) (ps : List ℕ) (c : ℕ) → occupiedAt r (sorted ps) c ≡ occupiedAt r ps c
-occupied-sorted r ps c = ap (λ n. bit (ltb 0 n)) (count-sorted (λ p. eqb (quotient r p) c) ps)
 
 -- place n of a row of slots of r bits, in the block that begins at word k
 row-place : (r b n : ℕ) → 0 < r → n < 64 * r → (n / r < 64) × (placeOf r (64 * b + n / r) + n % r ≡ 64 * wordOf r b 3 + n)

@@ -15,6 +15,7 @@ use Rattle.layout.specs.Laws.{readFrom}
 use Rattle.layout.proofs.Bounds.{empty-law}
 use Rattle.layout.proofs.Passes.{quotients-below}
 use Rattle.layout.proofs.ReadBack.{read-law}
+use Rattle.blocks.proofs.Forms.{bit-of-none}
 use Rattle.blocks.specs.Views.{wordOf, placeOf, occupiedIn, runendIn, offsetIn, remainderIn, Shows, readBack}
 
 pub read-back : (r slots : ℕ) (ws ps : List ℕ) → Sorted ps → Roomy slots r ps → Shows r ws ps → readBack r slots ws ≡ ps
@@ -31,19 +32,16 @@ unfolding rowOf
 row-none zero = refl
 row-none (suc n) = omega (arith, row-none n)
 
-word-none : (n k : ℕ) → getD {A = ℕ} (replicate n 0) k 0 ≡ 0
+pub word-none : (n k : ℕ) → getD {A = ℕ} (replicate n 0) k 0 ≡ 0
 word-none n k =
     ⊎-elim (λ (l : k < n). getD-replicate n k 0 0 l)
     (λ (l : n ≤ k). getD-past (replicate n 0) k 0 (omega (arith, length-replicate {A = ℕ} n 0))) (cases-lt k n)
 
-bit-none : (i : ℕ) → bitAt 0 i ≡ 0
-bit-none i = ap (λ x. x % 2) (zero-div (2 ^ i))
-
 pub zeros-show : (r n : ℕ) → Shows r (replicate n 0) []
 unfolding occupiedIn runendIn offsetIn remainderIn
 zeros-show r n = record {
-  occupied = λ c. ap (λ x. bitAt x (c % 64)) (word-none n (wordOf r (c / 64) 0)) ∙ bit-none (c % 64) ∙ sym (empty-law 0 r c .1);
-  runends = λ s. ap (λ x. bitAt x (s % 64)) (word-none n (wordOf r (s / 64) 1)) ∙ bit-none (s % 64) ∙ sym (empty-law 0 r s .4);
+  occupied = λ c. ap (λ x. bitAt x (c % 64)) (word-none n (wordOf r (c / 64) 0)) ∙ bit-of-none (c % 64) ∙ sym (empty-law 0 r c .1);
+  runends = λ s. ap (λ x. bitAt x (s % 64)) (word-none n (wordOf r (s / 64) 1)) ∙ bit-of-none (s % 64) ∙ sym (empty-law 0 r s .4);
   offsets = λ b. word-none n (wordOf r b 2) ∙ sym (empty-law 0 r (64 * b) .5);
   remainders = λ s.
       ap (λ x. field x (placeOf r s) r) (row-none n) ∙ ap (λ x. x % 2 ^ r) (zero-div (2 ^ placeOf r s)) ∙ zero-mod (2 ^ r) ∙ sym (empty-law 0 r s .3);

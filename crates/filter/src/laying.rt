@@ -111,7 +111,7 @@ pub(crate) fn lay(words: &mut [u64], width: Width, blocks: u32, rising: &[u64])
     requires few { ⌜ blocks ≤ 16640 ⌝ }
     requires order { ⌜ Sorted (now rising) ⌝ }
     requires room { ⌜ Roomy (64 * blocks) (width .bits) (now rising) ⌝ }
-    ensures { λ _. ⌜ Shows (width .bits) (now (words .exit)) (now (rising .entry)) ⌝ }
+    ensures { λ _. ⌜ now (words .exit) ≡ filterWords (width .bits) blocks (now (rising .entry)) ⌝ }
 {
     clear(words);
     lay_entries(words, width, blocks, rising);

@@ -25,6 +25,11 @@ unfolding insert
 all-insert P p [] h a = (h, tt)
 all-insert P p (q ∷ qs) h (k, a) = elim (leb p q) as (λ b. All P (cond b (p ∷ q ∷ qs) (q ∷ insert p qs))) [ true ↦ (h, (k, a)) | false ↦ (k, all-insert P p qs h a) ]
 
+pub all-sorted : (P : ℕ → Type 0) (ps : List ℕ) → All P ps → All P (sorted ps)
+unfolding sorted
+all-sorted P [] a = tt
+all-sorted P (p ∷ ps) (h, a) = all-insert P p (sorted ps) h (all-sorted P ps a)
+
 pub all-remove : (P : ℕ → Type 0) (p : ℕ) (ps : List ℕ) → All P ps → All P (remove p ps)
 unfolding remove
 all-remove P p [] a = tt

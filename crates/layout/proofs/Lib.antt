@@ -14,3 +14,4 @@ pub mod Instance
 pub mod Bounds
 pub mod Sorts
 pub mod Passes
+pub mod Formats

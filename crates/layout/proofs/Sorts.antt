@@ -7,16 +7,17 @@ use Prim.Native.Nat.{ℕ, zero, suc, _+_, _-_, _≤_, _<_}
 use native.Mathlib.Omega.{arith}
 use lib.Dec.{eqb}
 use lib.ListN.{length, getD}
-use Rattle.std.specs.Slices.{Shuffled}
+use Rattle.std.specs.Orderings.{isLt}
+use Rattle.std.specs.Slices.{Shuffled, Ascends}
 use Rattle.std.specs.shelf.Lists.{All, kept-by, countBy}
-use Rattle.std.specs.shelf.Sorted.{Rising}
+use Rattle.std.specs.shelf.Sorted.{unsigned, Rising}
 use Rattle.std.proofs.shelf.Sums.{length-kept-by}
-use Rattle.std.proofs.shelf.Sorted.{sumBy-shuffled}
+use Rattle.std.proofs.shelf.Sorted.{sumBy-shuffled, rises-from-sort}
 use Rattle.std.proofs.shelf.Elements.{all-from-getD}
 use Rattle.std.proofs.shelf.Tests.{cases-order, eq-eqb, ne-eqb, cond-true, cond-false, cases-bool, eqb-true}
 use Rattle.layout.specs.Rule.{bit, Sorted, sorted}
 use Rattle.layout.specs.Laws.{count}
-use Rattle.layout.proofs.Inserts.{sorted-sorted}
+use Rattle.layout.proofs.Inserts.{sorted-sorted, length-insert}
 use Rattle.layout.proofs.Bags.{count-law}
 
 pub count-here : (p q : ℕ) (ps : List ℕ) → count q (p ∷ ps) ≡ bit (eqb p q) + count q ps
@@ -67,3 +68,14 @@ sorted-from-sort xs ys h up =
 pub sorted-same-counts : (xs ys : List ℕ) → ((p : ℕ) → count p xs ≡ count p ys) → sorted xs ≡ sorted ys
 sorted-same-counts xs ys h =
     sorted-one (sorted xs) (sorted ys) (sorted-sorted xs) (sorted-sorted ys) (λ p. count-law p p xs .0 ∙ h p ∙ sym (count-law p p ys .0))
+
+-- the same from the clauses of `sort`
+pub after-sort : (xs ys : List ℕ) → Shuffled xs ys → length ys ≡ length xs → Ascends (λ x y. isLt (unsigned .cmp x y)) ys 0 (length xs) → Sorted ys × (ys ≡ sorted xs)
+after-sort xs ys h len up =
+    let rises : Rising ys = rises-from-sort (λ x. x) ys (length xs) len up in
+    (sorted-rising ys rises, sorted-from-sort xs ys h rises)
+
+pub length-sorted : (ps : List ℕ) → length (sorted ps) ≡ length ps
+unfolding sorted
+length-sorted [] = refl
+length-sorted (p ∷ ps) = length-insert p (sorted ps) ∙ ap suc (length-sorted ps)

@@ -1,10 +1,14 @@
 use mathlib.Core.Path.{_≡_, sym, subst}
 use mathlib.Core.List.{List, []}
+use Prim.Native.Nat.{_+_, _*_}
 use native.Mathlib.Omega.{arith}
 use borrow.Author.Needs.{needs}
 use lib.ListN.{length}
+use Rattle.words.proofs.Rows.{Words}
 use Rattle.blocks.specs.Views.{Shows}
+use Rattle.blocks.proofs.Forms.{words-from-views}
 use Rattle.blocks.proofs.Readings.{zeros-show}
+use Rattle.filter.proofs.Held.{is-sorted}
 use Rattle.filter.proofs.laying.lay.Needs as need
 
 pub lay-entries-requires : need.lay-entries-requires
@@ -15,3 +19,11 @@ lay-entries-requires c κs = record {
   order = c .pre .order;
   room = c .pre .room;
 }
+
+pub returns : need.returns
+returns c =
+    let r = c .args .width .bits in
+    let ps = c .args .rising .now in
+    let own = c .lay-offsets .last .words in
+    let all : Words own = λ k. search needs in
+    words-from-views r ps (omega arith) own all (subst (Shows r own) (sym (is-sorted ps (c .pre .order))) (c .lay-offsets .ensures)) (c .args .blocks) (omega arith)

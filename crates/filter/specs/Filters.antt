@@ -1,0 +1,59 @@
+-- A filter's meaning, and what its calls promise.
+use mathlib.Core.Path.{_≡_}
+use mathlib.Core.List.{List, [], _++_}
+use Prim.Native.Nat.{ℕ, _+_, _*_, _^_, _≤_, _<_}
+use lib.ListN.{length, getD, drop, replicate}
+use denote.Ref.{now}
+use Rattle.std.specs.declared.result.Result.{Result}
+use Rattle.std.specs.declared.result.Result.the-variants.{Ok, Err}
+use Rattle.layout.specs.Rule.{sorted, Crowded, Roomy}
+use Rattle.layout.specs.Format.{filterWords}
+use Rattle.filter.specs.Meaning.{sizeOf, entriesOf}
+use Rattle.filter.specs.declared.fault.FilterFault.{FilterFault}
+use Rattle.filter.specs.declared.fault.FilterFault.the-variants.{BadPlan, WideFingerprint, NoSlot, NoSuchFingerprint}
+use Rattle.filter.specs.declared.plan.Plan.{Plan}
+use Rattle.filter.specs.declared.filter.Filter.{Filter}
+
+-- the words that the filter was lent, those after its blocks among them
+abbrev pub wordsOf : Filter → List ℕ
+wordsOf f = now (f .words)
+
+-- its entries, in rising order
+abbrev pub fingerprints : Filter → List ℕ
+fingerprints f = entriesOf (f .plan .r) (f .blocks) (wordsOf f)
+
+abbrev pub slotsOf : Filter → ℕ
+slotsOf f = 64 * f .blocks
+
+-- the words of that many blocks with the layout of a list, and what stood after them
+abbrev pub laidOver : ℕ → ℕ → List ℕ → List ℕ → List ℕ
+laidOver r blocks ps ws = filterWords r blocks ps ++ drop (sizeOf r blocks) ws
+
+-- all words of the blocks 0, and what stood after them
+abbrev pub clearedOver : ℕ → ℕ → List ℕ → List ℕ
+clearedOver r blocks ws = replicate (sizeOf r blocks) 0 ++ drop (sizeOf r blocks) ws
+
+-- each is a fingerprint under the plan
+abbrev pub Narrow : Plan → List ℕ → Type 0
+Narrow plan ps = (k : ℕ) → k < length ps → getD ps k 0 < 2 ^ (plan .q + plan .r)
+
+-- one is none
+abbrev pub Wide : Plan → List ℕ → Type 0
+Wide plan ps = (k : ℕ) × (k < length ps) × (2 ^ (plan .q + plan .r) ≤ getD ps k 0)
+
+-- some quotient under the plan is crowded
+abbrev pub Crowds : Plan → ℕ → List ℕ → Type 0
+Crowds plan slots ps = (c : ℕ) × (c < 2 ^ plan .q) × Crowded slots (plan .r) ps c
+
+-- What laying out a list makes of filter f and of the memory of the list: g and left.
+abbrev pub LaidOut : Filter → Filter → List ℕ → List ℕ → Result (Unit {0}) FilterFault → Type 0
+LaidOut f g list left (Ok done) =
+    Narrow (f .plan) list × Roomy (slotsOf f) (f .plan .r) list
+    × (fingerprints g ≡ sorted list) × (wordsOf g ≡ laidOver (f .plan .r) (f .blocks) list (wordsOf f)) × (left ≡ sorted list)
+LaidOut f g list left (Err WideFingerprint) =
+    Wide (f .plan) list × (g ≡ f) × (left ≡ list)
+LaidOut f g list left (Err NoSlot) =
+    Narrow (f .plan) list × Crowds (f .plan) (slotsOf f) list
+    × (fingerprints g ≡ []) × (wordsOf g ≡ clearedOver (f .plan .r) (f .blocks) (wordsOf f)) × (left ≡ sorted list)
+LaidOut f g list left (Err BadPlan) = ⊥
+LaidOut f g list left (Err NoSuchFingerprint) = ⊥
