@@ -1,0 +1,5 @@
+pub mod Runs
+pub mod Naturals
+pub mod Weights
+pub mod Pairs
+pub mod Cuts

@@ -1,0 +1,4 @@
+pub mod Readings
+pub mod Listings
+pub mod Orders
+pub mod Fillings

@@ -1,0 +1,4 @@
+pub mod Pairs
+pub mod Lists
+pub mod Requests
+pub mod Filling
