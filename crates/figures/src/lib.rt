@@ -60,8 +60,8 @@ pub fn glyph(bytes: &[u8]) -> Result<(u16, &[u8]), FigureFault>
     }
 }
 
-// A figure with nothing after it.
-fn whole(bytes: &[u8]) -> Result<u32, FigureFault>
+/// A figure with nothing after it: its number, or 65,536 where that is more.
+pub fn whole(bytes: &[u8]) -> Result<u32, FigureFault>
     ensures { λ r. ⌜ Cases r (λ v. Whole (now (bytes .entry)) v) (λ e. (e ≡ FigureFault.Unreadable) × NoWhole (now (bytes .entry))) ⌝ }
 {
     match figure(bytes)? {

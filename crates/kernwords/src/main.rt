@@ -48,7 +48,7 @@ fn print_refusal<W: Write>(out: &mut W, fault: FilterFault) -> Result<(), Fault>
 }
 
 /// Prints what the list on standard input says, and its words, for as many blocks as were asked for, at most 16,640.
-fn print_list<W: Write>(rt: &LibcRuntime, out: &mut W, plan: Plan, asked: u64) -> Result<(), Fault> {
+fn print_list<W: Write>(rt: &LibcRuntime, out: &mut W, plan: Plan, asked: u32) -> Result<(), Fault> {
     let mut text = Vec::new(rt.alloc());
     rt.stdin().read_to_end(&mut text)?;
     let list = read_list(rt.alloc(), text.as_slice())?;
