@@ -1,4 +1,5 @@
 pub mod Faults
 pub mod Meaning
 pub mod Laying
+pub mod Editing
 pub mod Filters

@@ -15,3 +15,4 @@ pub mod Bounds
 pub mod Sorts
 pub mod Passes
 pub mod Formats
+pub mod Heads
