@@ -7,14 +7,21 @@ use Prim.Native.Nat.{ℕ, suc, _+_, _*_, _/_, _%_, _^_, _≤_, _<_}
 use native.Mathlib.Nat.{mul-le-mul-right, mod-eq-of-lt}
 use native.Mathlib.Omega.{arith}
 use lib.Dec.{eqb, leb, ltb}
-use lib.ListN.{getD}
-use Rattle.std.proofs.shelf.Tests.{cond-true, cond-false, eq-eqb, ne-eqb, cases-eq, le-leb, lt-leb, lt-ltb, le-ltb, and-from, and-left, and-right}
+use lib.ListN.{length, getD}
+use Rattle.std.proofs.shelf.Tests.{cond-true, cond-false, eq-eqb, ne-eqb, cases-eq, le-leb, lt-ltb, le-ltb, and-from, and-right}
 use Rattle.std.proofs.shelf.Ways.{tells}
 use Rattle.words.specs.Row.{rowOf}
 use Rattle.words.proofs.Fields.{bit-lt, field-lt}
 use Rattle.blocks.specs.Views.{wordOf, placeOf, occupiedIn, runendIn, offsetIn, remainderIn}
 use Rattle.blocks.specs.Writes.{WroteRunend, WroteOffset, WroteRemainder}
-use Rattle.blocks.specs.Moves.{Within, ShiftedUp, ShiftedDown, MovedUp, MovedDown, CopiedEntry, ChangedOffsets}
+use Rattle.blocks.specs.Moves.{Holds, Within, ShiftedUp, ShiftedDown, MovedUp, MovedDown, CopiedEntry, ChangedOffsets}
+
+-- where the words are that many blocks, the blocks up to there and the block of each slot lie within them
+pub holds-all : (r : ℕ) (ws : List ℕ) (blocks n : ℕ) → length ws ≡ blocks * (r + 3) → n ≤ blocks → Holds r ws n
+holds-all r ws blocks n e l = omega (arith, mul-le-mul-right (r + 3) l)
+
+pub within-all : (r : ℕ) (ws : List ℕ) (blocks s : ℕ) → length ws ≡ blocks * (r + 3) → s < 64 * blocks → Within r ws s
+within-all r ws blocks s e l = holds-all r ws blocks (s / 64 + 1) e (omega arith)
 
 -- the block of a slot lies within the words where that of a later one does
 pub within-below : (r : ℕ) (ws : List ℕ) (i s : ℕ) → i ≤ s → Within r ws s → Within r ws i
@@ -65,7 +72,7 @@ up-more f g h i to l s w =
     let here : h (suc i) ≡ f i = at-write g h (suc i) (g i) w ∙ s .below i (omega arith) in
     record {
       moved = λ k lo hi. ⊎-elim (λ (same : k ≡ i). ap (λ n. h (suc n)) same ∙ here ∙ ap f (sym same))
-        (λ (ne : k ≢ i). other (suc k) (λ z. ne (omega arith)) ∙ s .moved k (omega arith) hi) (cases-eq k i);
+          (λ (ne : k ≢ i). other (suc k) (λ z. ne (omega arith)) ∙ s .moved k (omega arith) hi) (cases-eq k i);
       below = λ k lo. other k (λ z. omega arith) ∙ s .below k (omega arith);
       above = λ k hi. other k (λ z. omega arith) ∙ s .above k hi;
     }
@@ -81,7 +88,7 @@ down-more f g h from i l s w =
     let here : h i ≡ f (suc i) = at-write g h i (g (suc i)) w ∙ s .above (suc i) (omega arith) in
     record {
       moved = λ k lo hi. ⊎-elim (λ (same : k ≡ i). ap h same ∙ here ∙ ap (λ n. f (suc n)) (sym same))
-        (λ (ne : k ≢ i). other k ne ∙ s .moved k lo (omega arith)) (cases-eq k i);
+          (λ (ne : k ≢ i). other k ne ∙ s .moved k lo (omega arith)) (cases-eq k i);
       below = λ k lo. other k (λ z. omega arith) ∙ s .below k lo;
       above = λ k hi. other k (λ z. omega arith) ∙ s .above k (omega arith);
     }
@@ -97,12 +104,12 @@ change-more : (change f g h : ℕ → ℕ) (from i : ℕ) → from ≤ i
     → (k : ℕ) → h k ≡ cond (leb from k && ltb k (suc i)) (change (f k)) (f k)
 change-more change f g h from i l s w k = ⊎-elim
     (λ (same : k ≡ i). ap h same ∙ at-write g h i (change (g i)) w
-      ∙ ap change (s i ∙ cond-false (leb from i && ltb i i) (change (f i)) (f i) (and-right (leb from i) (ltb i i) (le-ltb i i (omega arith))))
-      ∙ ap (λ n. change (f n)) (sym same)
-      ∙ sym (cond-true (leb from k && ltb k (suc i)) (change (f k)) (f k) (and-from (leb from k) (ltb k (suc i)) (le-leb from k (omega arith)) (lt-ltb k (suc i) (omega arith)))))
+    ∙ ap change (s i ∙ cond-false (leb from i && ltb i i) (change (f i)) (f i) (and-right (leb from i) (ltb i i) (le-ltb i i (omega arith))))
+    ∙ ap (λ n. change (f n)) (sym same)
+    ∙ sym (cond-true (leb from k && ltb k (suc i)) (change (f k)) (f k) (and-from (leb from k) (ltb k (suc i)) (le-leb from k (omega arith)) (lt-ltb k (suc i) (omega arith)))))
     (λ (ne : k ≢ i).
-      let lower : ltb k (suc i) ≡ ltb k i = grind (arith, tells) in
-      off-write g h i (change (g i)) w k ne ∙ s k ∙ ap (λ b. cond (leb from k && b) (change (f k)) (f k)) (sym lower))
+    let lower : ltb k (suc i) ≡ ltb k i = grind (arith, tells) in
+    off-write g h i (change (g i)) w k ne ∙ s k ∙ ap (λ b. cond (leb from k && b) (change (f k)) (f k)) (sym lower))
     (cases-eq k i)
 
 -- a stretch that ends before it begins is empty, wherever it ends

@@ -4,7 +4,6 @@ ghost use Prim.Native.Nat.{_+_, _*_, _/_, _<_, _≤_};
 ghost use lib.Dec.{leb};
 ghost use lib.ListN.{length};
 ghost use Rattle.blocks.specs.Moves.{Holds, Within, MovedUp, MovedDown, CopiedEntry, ChangedOffsets, raised, lowered};
-
 use crate::Slot;
 use crate::offset;
 use crate::remainder;

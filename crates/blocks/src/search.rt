@@ -144,6 +144,10 @@ pub fn nth_runend(words: &[u64], width: Width, from: Slot, k: u32) -> Option<Slo
 #[cfg(test)]
 mod tests {
     use super::*;
+    use crate::QuotientDebug;
+    use crate::QuotientPartialEq;
+    use crate::SlotDebug;
+    use crate::SlotPartialEq;
     use std::test::*;
 
     #[test]

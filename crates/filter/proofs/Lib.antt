@@ -1,3 +1,4 @@
 pub mod Held
 pub mod Promises
 pub mod Editings
+pub mod Locatings

@@ -1,5 +1,6 @@
 pub mod Faults
 pub mod Meaning
 pub mod Laying
+pub mod Locating
 pub mod Editing
 pub mod Filters

@@ -3,6 +3,7 @@ mod fault;
 mod filter;
 mod laying;
 mod plan;
+mod runs;
 
 pub use blocks::Quotient;
 pub use blocks::Slot;

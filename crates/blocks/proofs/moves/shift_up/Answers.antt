@@ -20,9 +20,11 @@ loop-i-again c =
     let vs = c .copy-entry .last .words in
     let to = c .args .to .0 in
     let i : ℕ = c .loop-i .i - 1 in
-    let e : c .loop-i .i ≡ suc i = omega arith in
-    (omega arith, moved-up-more r ws us vs i to (omega arith) (subst (λ n. MovedUp r ws us n to) e (c .loop-i .inv .1))
-      (subst (λ n. CopiedEntry r us vs i n) (add-one i) (c .copy-entry .ensures)))
+    let e : c .loop-i .i ≡ suc i = omega arith in (
+      omega arith,
+      moved-up-more r ws us vs i to (omega arith) (subst (λ n. MovedUp r ws us n to) e (c .loop-i .inv .1))
+          (subst (λ n. CopiedEntry r us vs i n) (add-one i) (c .copy-entry .ensures)),
+    )
 
 pub returns : need.returns
 returns c =
