@@ -36,3 +36,10 @@ pub record EntryGone (r : ℕ) (ws vs : List ℕ) (c p u : ℕ) (follows only : 
   pub end-gap : runendIn r vs u ≡ 0
   pub end-above : (k : ℕ) → u < k → runendIn r vs k ≡ runendIn r ws k
   pub offsets : (b : ℕ) → offsetIn r vs b + bit (ltb c (64 * b) && leb (64 * b) u) ≡ offsetIn r ws b
+
+-- the runend bit of the slot before p is v now, if `when` holds
+pub record MarkedBefore (r : ℕ) (ws vs : List ℕ) (p : ℕ) (when : Bool) (v : ℕ) : Type 0 where
+  pub occupied : (k : ℕ) → occupiedIn r vs k ≡ occupiedIn r ws k
+  pub runends : (k : ℕ) → runendIn r vs k ≡ cond (eqb (suc k) p && when) v (runendIn r ws k)
+  pub offsets : (k : ℕ) → offsetIn r vs k ≡ offsetIn r ws k
+  pub remainders : (k : ℕ) → remainderIn r vs k ≡ remainderIn r ws k

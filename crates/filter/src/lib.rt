@@ -1,4 +1,5 @@
 //! A rank-and-select quotient filter over lent words.
+mod editing;
 mod fault;
 mod filter;
 mod laying;

@@ -3,7 +3,7 @@ ghost use mathlib.Core.Path.{_≡_};
 ghost use mathlib.Core.List.{List};
 ghost use Prim.Native.Nat.{ℕ, suc, _+_, _-_, _*_, _/_, _^_, _<_, _≤_};
 ghost use Rattle.std.specs.Options.{Cases as BySome};
-ghost use Rattle.layout.specs.Rule.{many};
+ghost use Rattle.layout.specs.Rule.{quotient, remainder, many};
 ghost use Rattle.layout.specs.Load.{load, start, tally, FirstFree, FirstIdle};
 ghost use Rattle.blocks.specs.Views.{occupiedIn, runendIn, remainderIn};
 ghost use Rattle.filter.specs.Meaning.{heldIn, Sound};
@@ -17,6 +17,21 @@ use blocks::occupied_below;
 use blocks::offset;
 use blocks::remainder;
 use words::Width;
+
+/// The quotient of a fingerprint.
+pub(crate) fn quotient_of(width: Width, fingerprint: u64) -> Quotient
+    requires { ⌜ quotient (width .bits) fingerprint < 2 ^ 32 ⌝ }
+    ensures { λ c. ⌜ c .0 ≡ quotient (width .bits) fingerprint ⌝ }
+{
+    Quotient((fingerprint >> width.bits) as u32)
+}
+
+/// The remainder of a fingerprint.
+pub(crate) fn remainder_of(width: Width, fingerprint: u64) -> u32
+    ensures { λ n. ⌜ n ≡ remainder (width .bits) fingerprint ⌝ }
+{
+    (fingerprint & ((1 << width.bits) - 1)) as u32
+}
 
 /// The slot after the first `k` runs of the block of `c`, and `c` at least.
 fn after_runs(words: &[u64], width: Width, blocks: u32, c: Quotient, k: u32) -> Slot

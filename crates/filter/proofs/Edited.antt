@@ -1,0 +1,135 @@
+-- One entry more or less, from where it was found to the list that is then held.
+use mathlib.Core.Path.{_≡_, refl, sym, ap, ap₂, subst, _∙_}
+use mathlib.Core.Logic.{_⊎_, inl, inr, ⊎-elim, _≢_}
+use mathlib.Core.Bool.{Bool, true, false, cond, _&&_}
+use mathlib.Core.List.{List}
+use Prim.Native.Nat.{ℕ, zero, suc, _+_, _-_, _*_, _/_, _^_, _≤_, _<_, max}
+use native.Mathlib.Omega.{arith}
+use lib.Dec.{eqb, leb, ltb}
+use lib.ListN.{length, getD}
+use Rattle.std.proofs.shelf.Tests.{cases-eq, cases-lt, eq-eqb, ne-eqb, lt-ltb, le-ltb}
+use Rattle.std.proofs.shelf.Lists.{length-map}
+use Rattle.layout.specs.Rule.{quotient, remainder, Sorted, insert, remove, run, many, Roomy}
+use Rattle.layout.specs.Runs.{remainders}
+use Rattle.layout.specs.Load.{load, start, FirstFree, FirstIdle}
+use Rattle.layout.specs.Moves.{Fit}
+use Rattle.layout.proofs.Bounds.{fit-law}
+use Rattle.layout.proofs.Bridge.{layout-law}
+use Rattle.layout.proofs.Edits.{insert-slots-law, remove-slots-law}
+use Rattle.layout.proofs.Inserts.{sorted-insert, sorted-remove, one-remove}
+use Rattle.layout.proofs.Loads.{load-step, remove-law}
+use Rattle.layout.proofs.Rooms.{insert-room-law, remove-room-law}
+use Rattle.blocks.specs.Views.{remainderIn, offsetIn, Shows}
+use Rattle.blocks.proofs.Readings.{read-back}
+use Rattle.filter.specs.Meaning.{sizeOf, heldIn, Sound}
+use Rattle.filter.specs.Editing.{EntryPut, EntryGone}
+use Rattle.filter.proofs.Editings.{put-shows, gone-shows}
+use Rattle.filter.proofs.Locatings.{within, load-is}
+
+-- words that show a list with room for all are sound, and hold it
+pub sound-of : (r blocks : ℕ) (ps vs : List ℕ) → blocks ≤ 16640 → length vs ≡ sizeOf r blocks → Sorted ps → Roomy (64 * blocks) r ps → Shows r vs ps
+    → Sound r blocks vs × (heldIn r blocks vs ≡ ps)
+sound-of r blocks ps vs few size s room shows =
+    let e : heldIn r blocks vs ≡ ps = read-back r (64 * blocks) vs ps s room shows in
+    ( record {
+        few = few;
+        sized = size;
+        rising = subst Sorted (sym e) s;
+        roomy = subst (Roomy (64 * blocks) r) (sym e) room;
+        shows = subst (Shows r vs) (sym e) shows;
+      }
+    , e )
+
+module _ (r blocks : ℕ) (ws : List ℕ) (sound : Sound r blocks ws) where
+  -- offsets are small
+  pub offsets-few : (b : ℕ) → offsetIn r ws b < 2 ^ 32
+  offsets-few b =
+      let w = within r blocks ws sound in
+      ⊎-elim (λ (l : 64 * b < 64 * blocks). omega (arith, sound .few, sound .shows .offsets b, w .offset (64 * b) (omega arith)))
+      (λ (l : 64 * blocks ≤ 64 * b). omega (arith, sound .shows .offsets b, w .past (64 * b) l)) (cases-lt (64 * b) (64 * blocks))
+
+  -- the i-th remainder of a run
+  pub rem-at : (c i : ℕ) → i < many r (heldIn r blocks ws) c → remainderIn r ws (start (many r (heldIn r blocks ws)) c + i) ≡ getD (remainders r (heldIn r blocks ws) c) i 0
+  rem-at c i l =
+      let m = many r (heldIn r blocks ws) in
+      let z : (start m c + i) - start m c ≡ i = omega arith in
+      sound .shows .remainders (start m c + i) ∙ layout-law r (heldIn r blocks ws) (sound .rising) .holds c (start m c + i) (omega arith) (omega (arith, load-step m c))
+      ∙ ap (λ x. getD (remainders r (heldIn r blocks ws) c) x 0) z
+
+  -- a quotient that has entries lies below the slots
+  pub run-below : (c : ℕ) → 0 < many r (heldIn r blocks ws) c → c < 64 * blocks
+  run-below c l = omega (arith, within r blocks ws sound .last c l)
+
+  -- ---- an entry more
+
+  module _ (p S T P : ℕ) (starts : S ≡ start (many r (heldIn r blocks ws)) (quotient r p)) (stops : T ≡ S + many r (heldIn r blocks ws) (quotient r p))
+      (lo : S ≤ P) (hi : P ≤ T) (below : (k : ℕ) → S ≤ k → k < P → remainderIn r ws k < remainder r p) (here : P < T → remainder r p ≤ remainderIn r ws P) where
+    pub put-fit : Fit (P - S) (remainder r p) (remainders r (heldIn r blocks ws) (quotient r p))
+    put-fit =
+        let c = quotient r p in
+        let j = P - S in
+        fit-law r (heldIn r blocks ws) (sound .rising) c .2 j (remainder r p) (omega arith)
+        (λ l. let at : start (many r (heldIn r blocks ws)) c + (j - 1) ≡ P - 1 = omega arith in
+          omega (arith, rem-at c (j - 1) (omega arith), ap (remainderIn r ws) at, below (P - 1) (omega arith) (omega arith)))
+        (λ l. let at : start (many r (heldIn r blocks ws)) c + j ≡ P = omega arith in
+          omega (arith, rem-at c j l, ap (remainderIn r ws) at, here (omega arith)))
+
+    module _ (u : ℕ) (free : FirstFree (many r (heldIn r blocks ws)) (quotient r p) u) where
+      pub put-room : P ≤ u
+      put-room = omega (arith, insert-slots-law r p (heldIn r blocks ws) (P - S) u (sound .rising) free put-fit .room)
+
+      pub put-result : (vs : List ℕ) → u < 64 * blocks → length vs ≡ sizeOf r blocks
+          → EntryPut r ws vs (quotient r p) P u (remainder r p) (eqb P T) (ltb S P && eqb P T)
+          → Sound r blocks vs × (heldIn r blocks vs ≡ insert p (heldIn r blocks ws))
+      put-result vs l size put =
+          let c = quotient r p in
+          let j : ℕ = P - S in
+          let at : P ≡ start (many r (heldIn r blocks ws)) c + j = omega arith in
+          let last : eqb P T ≡ eqb j (many r (heldIn r blocks ws) c) =
+            ⊎-elim (λ (e : P ≡ T). eq-eqb P T e ∙ sym (eq-eqb j (many r (heldIn r blocks ws) c) (omega arith))) (λ (e : P ≢ T). ne-eqb P T e ∙ sym (ne-eqb j (many r (heldIn r blocks ws) c) (λ z. e (omega arith)))) (cases-eq P T) in
+          let first : ltb S P ≡ ltb 0 j =
+            ⊎-elim (λ (g : S < P). lt-ltb S P g ∙ sym (lt-ltb 0 j (omega arith))) (λ (g : P ≤ S). le-ltb S P g ∙ sym (le-ltb 0 j (omega arith))) (cases-lt S P) in
+          let put1 = subst (λ b. EntryPut r ws vs c P u (remainder r p) b (ltb S P && b)) last put in
+          let put2 = subst (λ b. EntryPut r ws vs c P u (remainder r p) (eqb j (many r (heldIn r blocks ws) c)) (b && eqb j (many r (heldIn r blocks ws) c))) first put1 in
+          let put3 = subst (λ x. EntryPut r ws vs c x u (remainder r p) (eqb j (many r (heldIn r blocks ws) c)) (ltb 0 j && eqb j (many r (heldIn r blocks ws) c))) at put2 in
+          sound-of r blocks (insert p (heldIn r blocks ws)) vs (sound .few) size (sorted-insert p (heldIn r blocks ws) (sound .rising))
+            (insert-room-law (64 * blocks) r p (heldIn r blocks ws) (sound .rising) (sound .roomy) .1 u free l)
+            (put-shows r p (heldIn r blocks ws) ws vs j u (sound .rising) (sound .shows) free put-fit put3)
+
+  -- ---- an entry less
+
+  module _ (p S T P t : ℕ) (starts : S ≡ start (many r (heldIn r blocks ws)) (quotient r p)) (stops : T ≡ S + many r (heldIn r blocks ws) (quotient r p))
+      (lo : S ≤ P) (hi : P < T) (found : getD (remainders r (heldIn r blocks ws) (quotient r p)) (P - S) 0 ≡ remainder r p) (idle : FirstIdle (many r (heldIn r blocks ws)) (quotient r p) t) where
+    pub gone-room : P ≤ t - 1
+    gone-room =
+        let j : ℕ = P - S in
+        let l : j < many r (heldIn r blocks ws) (quotient r p) = omega arith in
+        let one = one-remove r p (heldIn r blocks ws) (sound .rising) j l found in
+        omega (arith, remove-slots-law r p (heldIn r blocks ws) j t (sound .rising) l found idle .room,
+          remove-law (many r (heldIn r blocks ws)) (many r (remove p (heldIn r blocks ws))) (quotient r p) t one idle .before (quotient r p) (omega arith))
+
+    pub gone-waits : (b : ℕ) → quotient r p < 64 * b → 64 * b ≤ t - 1 → 0 < offsetIn r ws b
+    gone-waits b l g = omega (arith, idle .waits (64 * b) l (omega (arith, idle .from)), load-is r blocks ws sound (64 * b), sound .shows .offsets b)
+
+    pub gone-result : (vs : List ℕ) → length vs ≡ sizeOf r blocks
+        → EntryGone r ws vs (quotient r p) P (t - 1) (ltb S P && eqb (P + 1) T) (eqb (S + 1) T)
+        → Sound r blocks vs × (heldIn r blocks vs ≡ remove p (heldIn r blocks ws))
+    gone-result vs size gone =
+        let c = quotient r p in
+        let j : ℕ = P - S in
+        let M : ℕ = many r (heldIn r blocks ws) c in
+        let l : j < M = omega arith in
+        let at : P ≡ start (many r (heldIn r blocks ws)) c + j = omega arith in
+        let last : eqb (P + 1) T ≡ eqb (suc j) M =
+          ⊎-elim (λ (e : P + 1 ≡ T). eq-eqb (P + 1) T e ∙ sym (eq-eqb (suc j) M (omega arith))) (λ (e : P + 1 ≢ T). ne-eqb (P + 1) T e ∙ sym (ne-eqb (suc j) M (λ z. e (omega arith)))) (cases-eq (P + 1) T) in
+        let only : eqb (S + 1) T ≡ eqb M 1 =
+          ⊎-elim (λ (e : S + 1 ≡ T). eq-eqb (S + 1) T e ∙ sym (eq-eqb M 1 (omega arith))) (λ (e : S + 1 ≢ T). ne-eqb (S + 1) T e ∙ sym (ne-eqb M 1 (λ z. e (omega arith)))) (cases-eq (S + 1) T) in
+        let first : ltb S P ≡ ltb 0 j =
+          ⊎-elim (λ (g : S < P). lt-ltb S P g ∙ sym (lt-ltb 0 j (omega arith))) (λ (g : P ≤ S). le-ltb S P g ∙ sym (le-ltb 0 j (omega arith))) (cases-lt S P) in
+        let g1 = subst (λ b. EntryGone r ws vs c P (t - 1) (ltb S P && b) (eqb (S + 1) T)) last gone in
+        let g2 = subst (λ b. EntryGone r ws vs c P (t - 1) (b && eqb (suc j) M) (eqb (S + 1) T)) first g1 in
+        let g3 = subst (λ b. EntryGone r ws vs c P (t - 1) (ltb 0 j && eqb (suc j) M) b) only g2 in
+        let g4 = subst (λ x. EntryGone r ws vs c x (t - 1) (ltb 0 j && eqb (suc j) M) (eqb M 1)) at g3 in
+        sound-of r blocks (remove p (heldIn r blocks ws)) vs (sound .few) size (sorted-remove p (heldIn r blocks ws) (sound .rising))
+          (remove-room-law (64 * blocks) r p (heldIn r blocks ws) (sound .roomy))
+          (gone-shows r p (heldIn r blocks ws) ws vs j t (sound .rising) (sound .shows) l found idle g4)
