@@ -1,25 +1,28 @@
 -- One entry more or less, from where it was found to the list that is then held.
 use mathlib.Core.Path.{_≡_, refl, sym, ap, ap₂, subst, _∙_}
 use mathlib.Core.Logic.{_⊎_, inl, inr, ⊎-elim, _≢_}
-use mathlib.Core.Bool.{Bool, true, false, cond, _&&_}
-use mathlib.Core.List.{List}
+use mathlib.Core.Bool.{Bool, true, false, true≢false, cond, _&&_}
+use mathlib.Core.List.{List, [], _∷_}
 use Prim.Native.Nat.{ℕ, zero, suc, _+_, _-_, _*_, _/_, _^_, _≤_, _<_, max}
 use native.Mathlib.Omega.{arith}
 use lib.Dec.{eqb, leb, ltb}
 use lib.ListN.{length, getD}
-use Rattle.std.proofs.shelf.Tests.{cases-eq, cases-lt, eq-eqb, ne-eqb, lt-ltb, le-ltb}
+use Rattle.std.proofs.shelf.Tests.{cases-eq, cases-lt, cond-true, eq-eqb, ne-eqb, lt-ltb, le-ltb}
+use Rattle.std.specs.shelf.Lists.{kept-by}
 use Rattle.std.proofs.shelf.Lists.{length-map}
 use Rattle.layout.specs.Rule.{quotient, remainder, Sorted, insert, remove, run, many, Roomy}
 use Rattle.layout.specs.Runs.{remainders}
 use Rattle.layout.specs.Load.{load, start, FirstFree, FirstIdle}
 use Rattle.layout.specs.Moves.{Fit}
+use Rattle.layout.specs.Laws.{count}
+use Rattle.layout.proofs.Bags.{find-law}
 use Rattle.layout.proofs.Bounds.{fit-law}
 use Rattle.layout.proofs.Bridge.{layout-law}
 use Rattle.layout.proofs.Edits.{insert-slots-law, remove-slots-law}
 use Rattle.layout.proofs.Inserts.{sorted-insert, sorted-remove, one-remove}
 use Rattle.layout.proofs.Loads.{load-step, remove-law}
 use Rattle.layout.proofs.Rooms.{insert-room-law, remove-room-law}
-use Rattle.blocks.specs.Views.{remainderIn, offsetIn, Shows}
+use Rattle.blocks.specs.Views.{occupiedIn, remainderIn, offsetIn, Shows}
 use Rattle.blocks.proofs.Readings.{read-back}
 use Rattle.filter.specs.Meaning.{sizeOf, heldIn, Sound}
 use Rattle.filter.specs.Editing.{EntryPut, EntryGone}
@@ -40,6 +43,16 @@ sound-of r blocks ps vs few size s room shows =
       }
     , e )
 
+count-none : (v : ℕ) (l : List ℕ) → ((i : ℕ) → i < length l → getD l i 0 ≡ v → ⊥) → count v l ≡ 0
+count-none v [] h = refl
+count-none v (x ∷ l) h = rw (ne-eqb x v (λ e. h 0 (omega arith) e)) (count-none v l (λ i g e. h (suc i) (omega arith) e))
+
+count-some : (v : ℕ) (l : List ℕ) (j : ℕ) → j < length l → getD l j 0 ≡ v → 0 < count v l
+count-some v [] j g e = absurd (omega arith)
+count-some v (x ∷ l) zero g e = rw (eq-eqb x v e) (omega arith)
+count-some v (x ∷ l) (suc j) g e =
+    elim (eqb x v) as (λ b. 0 < length (cond b (x ∷ kept-by (λ y. eqb y v) l) (kept-by (λ y. eqb y v) l))) [ true ↦ omega arith | false ↦ count-some v l j (omega arith) e ]
+
 module _ (r blocks : ℕ) (ws : List ℕ) (sound : Sound r blocks ws) where
   -- offsets are small
   pub offsets-few : (b : ℕ) → offsetIn r ws b < 2 ^ 32
@@ -59,6 +72,47 @@ module _ (r blocks : ℕ) (ws : List ℕ) (sound : Sound r blocks ws) where
   -- a quotient that has entries lies below the slots
   pub run-below : (c : ℕ) → 0 < many r (heldIn r blocks ws) c → c < 64 * blocks
   run-below c l = omega (arith, within r blocks ws sound .last c l)
+
+  -- ---- whether a fingerprint is there
+
+  -- in a run whose remainders rise, one that is not where it would be is nowhere
+  pub absent : (c S T P v : ℕ) → S ≡ start (many r (heldIn r blocks ws)) c → T ≡ S + many r (heldIn r blocks ws) c → S ≤ P
+      → ((k : ℕ) → S ≤ k → k < P → remainderIn r ws k < v) → (P < T → v ≤ remainderIn r ws P) → (T ≤ P) ⊎ (remainderIn r ws P ≢ v)
+      → (k : ℕ) → k < many r (heldIn r blocks ws) c → remainderIn r ws (start (many r (heldIn r blocks ws)) c + k) ≡ v → ⊥
+  absent c S T P v starts stops lo below here why k l e =
+      let m = many r (heldIn r blocks ws) in
+      let s : start m c + k ≡ S + k = omega arith in
+      let same = ap (remainderIn r ws) s in
+      ⊎-elim
+      (λ (g : S + k < P). omega (arith, below (S + k) (omega arith) g))
+      (λ (g : P ≤ S + k). ⊎-elim
+        (λ (h : T ≤ P). omega arith)
+        (λ (h : remainderIn r ws P ≢ v).
+        let j : ℕ = P - S in
+        let at : start m c + j ≡ P = omega arith in
+        let rise = fit-law r (heldIn r blocks ws) (sound .rising) c .1 j k (omega arith) l in
+        omega (arith, rise, rem-at c j (omega arith), ap (remainderIn r ws) at, rem-at c k l, here (omega arith))) why)
+      (cases-lt (S + k) P)
+
+  pub none-there : (p : ℕ) → ((k : ℕ) → k < many r (heldIn r blocks ws) (quotient r p) → remainderIn r ws (start (many r (heldIn r blocks ws)) (quotient r p) + k) ≡ remainder r p → ⊥)
+      → count p (heldIn r blocks ws) ≡ 0
+  none-there p h =
+      find-law r p (heldIn r blocks ws)
+      ∙ count-none (remainder r p) (remainders r (heldIn r blocks ws) (quotient r p)) (λ i l e.
+          let short : i < many r (heldIn r blocks ws) (quotient r p) = omega (arith, length-map (run r (heldIn r blocks ws) (quotient r p)) (remainder r)) in
+          h i short (rem-at (quotient r p) i short ∙ e))
+
+  -- nothing has a quotient that is not occupied
+  pub not-occupied : (p : ℕ) → eqb (occupiedIn r ws (quotient r p)) 1 ≡ false → count p (heldIn r blocks ws) ≡ 0
+  not-occupied p e =
+      none-there p (λ k l z.
+        let one : occupiedIn r ws (quotient r p) ≡ 1 = sound .shows .occupied (quotient r p) ∙ cond-true (ltb 0 (many r (heldIn r blocks ws) (quotient r p))) 1 0 (lt-ltb 0 (many r (heldIn r blocks ws) (quotient r p)) (omega arith)) in
+        true≢false (sym (eq-eqb (occupiedIn r ws (quotient r p)) 1 one) ∙ e))
+
+  pub one-there : (p j : ℕ) → j < many r (heldIn r blocks ws) (quotient r p) → getD (remainders r (heldIn r blocks ws) (quotient r p)) j 0 ≡ remainder r p → 0 < count p (heldIn r blocks ws)
+  one-there p j l e =
+      omega (arith, find-law r p (heldIn r blocks ws),
+        count-some (remainder r p) (remainders r (heldIn r blocks ws) (quotient r p)) j (omega (arith, length-map (run r (heldIn r blocks ws) (quotient r p)) (remainder r))) e)
 
   -- ---- an entry more
 

@@ -4,10 +4,13 @@ ghost use mathlib.Core.List.{List};
 ghost use Prim.Native.Nat.{ℕ, suc, _+_, _-_, _*_, _/_, _^_, _<_, _≤_};
 ghost use Rattle.std.specs.Options.{Cases as BySome};
 ghost use Rattle.layout.specs.Rule.{quotient, remainder, many};
+ghost use lib.ListN.{getD};
+ghost use Rattle.layout.specs.Laws.{count};
+ghost use Rattle.layout.specs.Runs.{remainders};
 ghost use Rattle.layout.specs.Load.{load, start, tally, FirstFree, FirstIdle};
 ghost use Rattle.blocks.specs.Views.{occupiedIn, runendIn, remainderIn};
 ghost use Rattle.filter.specs.Meaning.{heldIn, Sound};
-ghost use Rattle.filter.specs.Locating.{headIn, AfterRuns};
+ghost use Rattle.filter.specs.Locating.{headIn, AfterRuns, InRun};
 
 use blocks::Quotient;
 use blocks::Slot;
@@ -114,4 +117,45 @@ pub(crate) fn seek(words: &[u64], width: Width, from: Slot, to: Slot, rem: u32) 
         at += 1;
     }
     Slot(at)
+}
+
+/// Where an entry of a fingerprint lies: in slot `at`, in the run from slot `from` up to slot `to`.
+#[derive(Clone, Copy)]
+pub(crate) struct Place {
+    pub(crate) from: Slot,
+    pub(crate) to: Slot,
+    pub(crate) at: Slot,
+}
+
+/// The first entry of a fingerprint that has that remainder, in the run of its quotient `c`, if there is one.
+fn in_run(words: &[u64], width: Width, blocks: u32, c: Quotient, rem: u32) -> Option<Place>
+    requires sound { ⌜ Sound (width .bits) blocks (now words) ⌝ }
+    ensures { λ o. ⌜ BySome o
+        ((k : ℕ) → k < many (width .bits) (heldIn (width .bits) blocks (now (words .entry))) (c .0) → remainderIn (width .bits) (now (words .entry)) (start (many (width .bits) (heldIn (width .bits) blocks (now (words .entry)))) (c .0) + k) ≡ rem → ⊥)
+        (λ x. InRun (width .bits) blocks (now (words .entry)) (c .0) (x .from .0) (x .to .0) (x .at .0) × (remainderIn (width .bits) (now (words .entry)) (x .at .0) ≡ rem)) ⌝ }
+{
+    let from = start_of(words, width, blocks, c);
+    let to = stop_of(words, width, blocks, c);
+    let at = seek(words, width, from, to, rem);
+    if at.0 < to.0 && remainder(words, width, at) == rem {
+        Some(Place { from, to, at })
+    } else {
+        None
+    }
+}
+
+/// Where an entry of a fingerprint lies, if there is one.
+pub(crate) fn find(words: &[u64], width: Width, blocks: u32, fingerprint: u64) -> Option<Place>
+    requires sound { ⌜ Sound (width .bits) blocks (now words) ⌝ }
+    requires narrow { ⌜ quotient (width .bits) fingerprint < 2 ^ 32 ⌝ }
+    ensures { λ o. ⌜ BySome o
+        (count fingerprint (heldIn (width .bits) blocks (now (words .entry))) ≡ 0)
+        (λ x. InRun (width .bits) blocks (now (words .entry)) (quotient (width .bits) fingerprint) (x .from .0) (x .to .0) (x .at .0)
+            × (getD (remainders (width .bits) (heldIn (width .bits) blocks (now (words .entry))) (quotient (width .bits) fingerprint)) (x .at .0 - x .from .0) 0 ≡ remainder (width .bits) fingerprint)) ⌝ }
+{
+    let c = quotient_of(width, fingerprint);
+    if !occupied(words, width, c) {
+        return None;
+    }
+    in_run(words, width, blocks, c, remainder_of(width, fingerprint))
 }
