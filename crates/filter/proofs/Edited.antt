@@ -19,29 +19,13 @@ use Rattle.layout.proofs.Bags.{find-law}
 use Rattle.layout.proofs.Bounds.{fit-law}
 use Rattle.layout.proofs.Bridge.{layout-law}
 use Rattle.layout.proofs.Edits.{insert-slots-law, remove-slots-law}
-use Rattle.layout.proofs.Inserts.{sorted-insert, sorted-remove, one-remove}
+use Rattle.layout.proofs.Inserts.{one-remove}
 use Rattle.layout.proofs.Loads.{load-step, remove-law}
-use Rattle.layout.proofs.Rooms.{insert-room-law, remove-room-law}
 use Rattle.blocks.specs.Views.{occupiedIn, remainderIn, offsetIn, Shows}
-use Rattle.blocks.proofs.Readings.{read-back}
 use Rattle.filter.specs.Meaning.{sizeOf, heldIn, Sound}
 use Rattle.filter.specs.Editing.{EntryPut, EntryGone}
 use Rattle.filter.proofs.Editings.{put-shows, gone-shows}
 use Rattle.filter.proofs.Locatings.{within, load-is}
-
--- words that show a list with room for all are sound, and hold it
-pub sound-of : (r blocks : ℕ) (ps vs : List ℕ) → blocks ≤ 16640 → length vs ≡ sizeOf r blocks → Sorted ps → Roomy (64 * blocks) r ps → Shows r vs ps
-    → Sound r blocks vs × (heldIn r blocks vs ≡ ps)
-sound-of r blocks ps vs few size s room shows =
-    let e : heldIn r blocks vs ≡ ps = read-back r (64 * blocks) vs ps s room shows in
-    ( record {
-        few = few;
-        sized = size;
-        rising = subst Sorted (sym e) s;
-        roomy = subst (Roomy (64 * blocks) r) (sym e) room;
-        shows = subst (Shows r vs) (sym e) shows;
-      }
-    , e )
 
 count-none : (v : ℕ) (l : List ℕ) → ((i : ℕ) → i < length l → getD l i 0 ≡ v → ⊥) → count v l ≡ 0
 count-none v [] h = refl
@@ -132,10 +116,10 @@ module _ (r blocks : ℕ) (ws : List ℕ) (sound : Sound r blocks ws) where
       pub put-room : P ≤ u
       put-room = omega (arith, insert-slots-law r p (heldIn r blocks ws) (P - S) u (sound .rising) free put-fit .room)
 
-      pub put-result : (vs : List ℕ) → u < 64 * blocks → length vs ≡ sizeOf r blocks
+      pub put-result : (vs : List ℕ)
           → EntryPut r ws vs (quotient r p) P u (remainder r p) (eqb P T) (ltb S P && eqb P T)
-          → Sound r blocks vs × (heldIn r blocks vs ≡ insert p (heldIn r blocks ws))
-      put-result vs l size put =
+          → Shows r vs (insert p (heldIn r blocks ws))
+      put-result vs put =
           let c = quotient r p in
           let j : ℕ = P - S in
           let at : P ≡ start (many r (heldIn r blocks ws)) c + j = omega arith in
@@ -146,9 +130,7 @@ module _ (r blocks : ℕ) (ws : List ℕ) (sound : Sound r blocks ws) where
           let put1 = subst (λ b. EntryPut r ws vs c P u (remainder r p) b (ltb S P && b)) last put in
           let put2 = subst (λ b. EntryPut r ws vs c P u (remainder r p) (eqb j (many r (heldIn r blocks ws) c)) (b && eqb j (many r (heldIn r blocks ws) c))) first put1 in
           let put3 = subst (λ x. EntryPut r ws vs c x u (remainder r p) (eqb j (many r (heldIn r blocks ws) c)) (ltb 0 j && eqb j (many r (heldIn r blocks ws) c))) at put2 in
-          sound-of r blocks (insert p (heldIn r blocks ws)) vs (sound .few) size (sorted-insert p (heldIn r blocks ws) (sound .rising))
-            (insert-room-law (64 * blocks) r p (heldIn r blocks ws) (sound .rising) (sound .roomy) .1 u free l)
-            (put-shows r p (heldIn r blocks ws) ws vs j u (sound .rising) (sound .shows) free put-fit put3)
+          put-shows r p (heldIn r blocks ws) ws vs j u (sound .rising) (sound .shows) free put-fit put3
 
   -- ---- an entry less
 
@@ -165,10 +147,10 @@ module _ (r blocks : ℕ) (ws : List ℕ) (sound : Sound r blocks ws) where
     pub gone-waits : (b : ℕ) → quotient r p < 64 * b → 64 * b ≤ t - 1 → 0 < offsetIn r ws b
     gone-waits b l g = omega (arith, idle .waits (64 * b) l (omega (arith, idle .from)), load-is r blocks ws sound (64 * b), sound .shows .offsets b)
 
-    pub gone-result : (vs : List ℕ) → length vs ≡ sizeOf r blocks
+    pub gone-result : (vs : List ℕ)
         → EntryGone r ws vs (quotient r p) P (t - 1) (ltb S P && eqb (P + 1) T) (eqb (S + 1) T)
-        → Sound r blocks vs × (heldIn r blocks vs ≡ remove p (heldIn r blocks ws))
-    gone-result vs size gone =
+        → Shows r vs (remove p (heldIn r blocks ws))
+    gone-result vs gone =
         let c = quotient r p in
         let j : ℕ = P - S in
         let M : ℕ = many r (heldIn r blocks ws) c in
@@ -184,6 +166,4 @@ module _ (r blocks : ℕ) (ws : List ℕ) (sound : Sound r blocks ws) where
         let g2 = subst (λ b. EntryGone r ws vs c P (t - 1) (b && eqb (suc j) M) (eqb (S + 1) T)) first g1 in
         let g3 = subst (λ b. EntryGone r ws vs c P (t - 1) (ltb 0 j && eqb (suc j) M) b) only g2 in
         let g4 = subst (λ x. EntryGone r ws vs c x (t - 1) (ltb 0 j && eqb (suc j) M) (eqb M 1)) at g3 in
-        sound-of r blocks (remove p (heldIn r blocks ws)) vs (sound .few) size (sorted-remove p (heldIn r blocks ws) (sound .rising))
-          (remove-room-law (64 * blocks) r p (heldIn r blocks ws) (sound .roomy))
-          (gone-shows r p (heldIn r blocks ws) ws vs j t (sound .rising) (sound .shows) l found idle g4)
+        (gone-shows r p (heldIn r blocks ws) ws vs j t (sound .rising) (sound .shows) l found idle g4)

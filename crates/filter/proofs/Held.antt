@@ -9,7 +9,7 @@ use lib.ListN.{length, getD, take, drop, replicate}
 use lib.Pow.{shr-lt}
 use Rattle.std.specs.shelf.Lists.{All}
 use Rattle.std.proofs.shelf.Elements.{all-getD, all-from-getD}
-use Rattle.std.proofs.shelf.Lists.{take-append-le, length-replicate, take-all}
+use Rattle.std.proofs.shelf.Lists.{take-append-le, length-replicate, length-take, take-all}
 use Rattle.std.proofs.shelf.Counted.{length-map-counting}
 use Rattle.std.proofs.shelf.Tests.{cases-lt}
 use Rattle.words.proofs.Rows.{Words}
@@ -21,7 +21,7 @@ use Rattle.layout.proofs.Rooms.{any-order-law, bound-law}
 use Rattle.blocks.specs.Views.{Shows, readBack}
 use Rattle.blocks.proofs.Forms.{words-from-views, views-from-words}
 use Rattle.blocks.proofs.Readings.{read-back, zeros-show, word-none}
-use Rattle.filter.specs.Meaning.{sizeOf, entriesOf}
+use Rattle.filter.specs.Meaning.{sizeOf, entriesOf, Sound}
 
 pub sorted-is : (ps : List ℕ) → sorted ps ≡ ps → Sorted ps
 sorted-is ps e = subst Sorted e (sorted-sorted ps)
@@ -122,3 +122,17 @@ facts q r blocks held ps tail ws pos sized order room narrow count is =
     , ( subst (λ x. (k : ℕ) → k < length x → getD x k 0 < 2 ^ (q + r)) (sym e) narrow
     , ( count ∙ ap length (sym e)
     , tt ) ) ) ) ) )
+
+-- the words of the blocks of a filter are sound
+pub own-sound : (q r blocks held : ℕ) (ws : List ℕ) → 0 < r → Facts q r blocks held ws → Sound r blocks (take (sizeOf r blocks) ws)
+own-sound q r blocks held ws pos (sized, (laid, (rising, (roomy, rest)))) =
+    let few : blocks ≤ 16640 = omega arith in
+    let room : sizeOf r blocks ≤ length ws = subst (λ b. sizeOf r b ≤ length ws) (sym sized) (size-room r (length ws)) in
+    record {
+      few = few;
+      sized = length-take (sizeOf r blocks) ws ∙ omega arith;
+      rising = sorted-is (entriesOf r blocks ws) rising;
+      roomy = roomy;
+      shows = subst (Shows r (take (sizeOf r blocks) ws)) rising
+        (views-from-words r (entriesOf r blocks ws) pos blocks (subst (Roomy (64 * blocks) r) (sym rising) roomy) (omega arith) (take (sizeOf r blocks) ws) laid);
+    }

@@ -1,13 +1,16 @@
 -- A filter's meaning, and what its calls promise.
 use mathlib.Core.Path.{_≡_}
-use mathlib.Core.List.{List, [], _++_}
+use mathlib.Core.Bool.{Bool}
+use mathlib.Core.List.{List, [], _∷_, _++_}
 use Prim.Native.Nat.{ℕ, _+_, _*_, _^_, _≤_, _<_}
+use lib.Dec.{ltb}
 use lib.ListN.{length, getD, drop, replicate}
 use denote.Ref.{now}
 use Rattle.std.specs.declared.result.Result.{Result}
 use Rattle.std.specs.declared.result.Result.the-variants.{Ok, Err}
-use Rattle.layout.specs.Rule.{sorted, Crowded, Roomy}
+use Rattle.layout.specs.Rule.{quotient, sorted, insert, remove, layout, usedAt, Crowded, Roomy}
 use Rattle.layout.specs.Format.{filterWords}
+use Rattle.layout.specs.Laws.{count}
 use Rattle.filter.specs.Meaning.{sizeOf, entriesOf}
 use Rattle.filter.specs.declared.fault.FilterFault.{FilterFault}
 use Rattle.filter.specs.declared.fault.FilterFault.the-variants.{BadPlan, WideFingerprint, NoSlot, NoSuchFingerprint}
@@ -57,3 +60,41 @@ LaidOut f g list left (Err NoSlot) =
     × (fingerprints g ≡ []) × (wordsOf g ≡ clearedOver (f .plan .r) (f .blocks) (wordsOf f)) × (left ≡ sorted list)
 LaidOut f g list left (Err BadPlan) = ⊥
 LaidOut f g list left (Err NoSuchFingerprint) = ⊥
+
+-- some slot from quotient c on is free
+abbrev pub FreeFrom : Filter → ℕ → Type 0
+FreeFrom f c = (u : ℕ) × (c ≤ u) × (u < slotsOf f) × (usedAt (layout (f .plan .r) (fingerprints f)) u ≡ 0)
+
+-- all slots from quotient c on are used
+abbrev pub FullFrom : Filter → ℕ → Type 0
+FullFrom f c = (u : ℕ) → c ≤ u → u < slotsOf f → usedAt (layout (f .plan .r) (fingerprints f)) u ≡ 1
+
+-- whether an entry of f has fingerprint p
+abbrev pub Answered : Filter → ℕ → Result Bool FilterFault → Type 0
+Answered f p (Ok there) = (p < 2 ^ (f .plan .q + f .plan .r)) × (there ≡ ltb 0 (count p (fingerprints f)))
+Answered f p (Err WideFingerprint) = 2 ^ (f .plan .q + f .plan .r) ≤ p
+Answered f p (Err NoSlot) = ⊥
+Answered f p (Err BadPlan) = ⊥
+Answered f p (Err NoSuchFingerprint) = ⊥
+
+-- What one more entry of p makes of filter f: g. It is refused a slot where some quotient is crowded with the newcomer counted, and so where no slot from
+-- its quotient on is free.
+abbrev pub Added : Filter → Filter → ℕ → Result (Unit {0}) FilterFault → Type 0
+Added f g p (Ok done) =
+    (p < 2 ^ (f .plan .q + f .plan .r)) × Roomy (slotsOf f) (f .plan .r) (p ∷ fingerprints f) × FreeFrom f (quotient (f .plan .r) p)
+    × (fingerprints g ≡ insert p (fingerprints f)) × (wordsOf g ≡ laidOver (f .plan .r) (f .blocks) (p ∷ fingerprints f) (wordsOf f))
+Added f g p (Err WideFingerprint) = (2 ^ (f .plan .q + f .plan .r) ≤ p) × (g ≡ f)
+Added f g p (Err NoSlot) =
+    (p < 2 ^ (f .plan .q + f .plan .r)) × Crowds (f .plan) (slotsOf f) (p ∷ fingerprints f) × FullFrom f (quotient (f .plan .r) p) × (g ≡ f)
+Added f g p (Err BadPlan) = ⊥
+Added f g p (Err NoSuchFingerprint) = ⊥
+
+-- What one entry of p less makes of filter f: g.
+abbrev pub Taken : Filter → Filter → ℕ → Result (Unit {0}) FilterFault → Type 0
+Taken f g p (Ok done) =
+    (p < 2 ^ (f .plan .q + f .plan .r)) × (0 < count p (fingerprints f))
+    × (fingerprints g ≡ remove p (fingerprints f)) × (wordsOf g ≡ laidOver (f .plan .r) (f .blocks) (remove p (fingerprints f)) (wordsOf f))
+Taken f g p (Err WideFingerprint) = (2 ^ (f .plan .q + f .plan .r) ≤ p) × (g ≡ f)
+Taken f g p (Err NoSuchFingerprint) = (p < 2 ^ (f .plan .q + f .plan .r)) × (count p (fingerprints f) ≡ 0) × (g ≡ f)
+Taken f g p (Err NoSlot) = ⊥
+Taken f g p (Err BadPlan) = ⊥

@@ -5,6 +5,7 @@ ghost use Prim.Native.Nat.{ℕ, suc, _+_, _-_, _*_, _^_, _<_, _≤_};
 ghost use lib.Dec.{eqb, ltb};
 ghost use lib.ListN.{length, getD};
 ghost use Rattle.layout.specs.Rule.{quotient, remainder, many, insert, remove};
+ghost use Rattle.layout.specs.Format.{filterWords};
 ghost use Rattle.layout.specs.Runs.{remainders};
 ghost use Rattle.layout.specs.Load.{start, FirstFree};
 ghost use Rattle.blocks.specs.Views.{offsetIn};
@@ -86,8 +87,7 @@ pub(crate) fn put_entry(words: &mut [u64], width: Width, blocks: u32, fingerprin
     requires sound { ⌜ Sound (width .bits) blocks (now words) ⌝ }
     requires free { ⌜ FirstFree (many (width .bits) (heldIn (width .bits) blocks (now words))) (quotient (width .bits) fingerprint) (u .0) ⌝ }
     requires below { ⌜ u .0 < 64 * blocks ⌝ }
-    ensures sound { λ _. ⌜ Sound (width .bits) blocks (now (words .exit)) ⌝ }
-    ensures held { λ _. ⌜ heldIn (width .bits) blocks (now (words .exit)) ≡ insert fingerprint (heldIn (width .bits) blocks (now (words .entry))) ⌝ }
+    ensures { λ _. ⌜ now (words .exit) ≡ filterWords (width .bits) blocks (insert fingerprint (heldIn (width .bits) blocks (now (words .entry)))) ⌝ }
 {
     let c = quotient_of(width, fingerprint);
     let rem = remainder_of(width, fingerprint);
@@ -105,8 +105,7 @@ pub(crate) fn take_entry(words: &mut [u64], width: Width, blocks: u32, fingerpri
     requires stops { ⌜ to .0 ≡ from .0 + many (width .bits) (heldIn (width .bits) blocks (now words)) (quotient (width .bits) fingerprint) ⌝ }
     requires within { ⌜ (from .0 ≤ p .0) × (p .0 < to .0) ⌝ }
     requires found { ⌜ getD (remainders (width .bits) (heldIn (width .bits) blocks (now words)) (quotient (width .bits) fingerprint)) (p .0 - from .0) 0 ≡ remainder (width .bits) fingerprint ⌝ }
-    ensures sound { λ _. ⌜ Sound (width .bits) blocks (now (words .exit)) ⌝ }
-    ensures held { λ _. ⌜ heldIn (width .bits) blocks (now (words .exit)) ≡ remove fingerprint (heldIn (width .bits) blocks (now (words .entry))) ⌝ }
+    ensures { λ _. ⌜ now (words .exit) ≡ filterWords (width .bits) blocks (remove fingerprint (heldIn (width .bits) blocks (now (words .entry)))) ⌝ }
 {
     let c = quotient_of(width, fingerprint);
     let t = first_idle(words, width, blocks, c);

@@ -9,6 +9,7 @@ ghost use Rattle.filter.specs.Meaning.{sizeOf, entriesOf};
 use crate::plan::Plan;
 
 mod calls;
+mod edits;
 
 /// A quotient filter over lent words. Every filter holds the layout of some list of fingerprints:
 /// those that are read back from its words.

@@ -12,8 +12,8 @@ use crate::fault::FilterFault;
 /// How a fingerprint is cut: its quotient has q bits, 6 to 20, and its remainder r bits, 1 to 32.
 #[derive(Clone, Copy, PartialEq, Eq, Debug)]
 pub struct Plan {
-    q: u32,
-    r: u32,
+    pub(crate) q: u32,
+    pub(crate) r: u32,
     ghost low: { 6 ≤ q },
     ghost high: { q ≤ 20 },
     ghost some: { 1 ≤ r },

@@ -20,7 +20,7 @@ use Rattle.layout.proofs.Splits.{run-all}
 
 -- ---- order
 
-all-insert : (P : ℕ → Type 0) (p : ℕ) (ps : List ℕ) → P p → All P ps → All P (insert p ps)
+pub all-insert : (P : ℕ → Type 0) (p : ℕ) (ps : List ℕ) → P p → All P ps → All P (insert p ps)
 unfolding insert
 all-insert P p [] h a = (h, tt)
 all-insert P p (q ∷ qs) h (k, a) = elim (leb p q) as (λ b. All P (cond b (p ∷ q ∷ qs) (q ∷ insert p qs))) [ true ↦ (h, (k, a)) | false ↦ (k, all-insert P p qs h a) ]

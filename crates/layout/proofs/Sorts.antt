@@ -14,8 +14,8 @@ use Rattle.std.specs.shelf.Sorted.{unsigned, Rising}
 use Rattle.std.proofs.shelf.Sums.{length-kept-by}
 use Rattle.std.proofs.shelf.Sorted.{sumBy-shuffled, rises-from-sort}
 use Rattle.std.proofs.shelf.Elements.{all-from-getD}
-use Rattle.std.proofs.shelf.Tests.{cases-order, eq-eqb, ne-eqb, cond-true, cond-false, cases-bool, eqb-true}
-use Rattle.layout.specs.Rule.{bit, Sorted, sorted}
+use Rattle.std.proofs.shelf.Tests.{cases-order, cases-eq, eq-eqb, ne-eqb, cond-true, cond-false, cases-bool, eqb-true}
+use Rattle.layout.specs.Rule.{bit, Sorted, sorted, remove}
 use Rattle.layout.specs.Laws.{count}
 use Rattle.layout.proofs.Inserts.{sorted-sorted, length-insert}
 use Rattle.layout.proofs.Bags.{count-law}
@@ -79,3 +79,15 @@ pub length-sorted : (ps : List ℕ) → length (sorted ps) ≡ length ps
 unfolding sorted
 length-sorted [] = refl
 length-sorted (p ∷ ps) = length-insert p (sorted ps) ∙ ap suc (length-sorted ps)
+
+-- one less, where it is there
+pub length-remove : (p : ℕ) (ps : List ℕ) → 0 < count p ps → suc (length (remove p ps)) ≡ length ps
+unfolding remove
+length-remove p [] l = absurd (omega arith)
+length-remove p (q ∷ qs) l =
+    ⊎-elim (λ (e : p ≡ q). rw (eq-eqb p q e) refl)
+    (λ (e : p ≢ q). rw (ne-eqb p q e) (ap suc (length-remove p qs (omega (arith, count-here q p qs, other e)))))
+    (cases-eq p q)
+  where
+    other : p ≢ q → bit (eqb q p) ≡ 0
+    other e = cond-false (eqb q p) 1 0 (ne-eqb q p (λ z. e (sym z)))

@@ -44,7 +44,7 @@ fn all_admitted(plan: Plan, list: &[u64]) -> bool
 }
 
 /// Makes the words of the blocks 0.
-fn clear_blocks(words: &mut [u64], width: Width, blocks: u32)
+pub(crate) fn clear_blocks(words: &mut [u64], width: Width, blocks: u32)
     requires sized { ⌜ sizeOf (width .bits) blocks ≤ length (now words) ⌝ }
     requires few { ⌜ blocks ≤ 16640 ⌝ }
     ensures { λ _. ⌜ now (words .exit) ≡ clearedOver (width .bits) blocks (now (words .entry)) ⌝ }

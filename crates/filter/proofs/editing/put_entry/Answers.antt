@@ -3,12 +3,18 @@ use mathlib.Core.Bool.{true, _&&_}
 use Prim.Native.Nat.{ℕ, _+_, _*_, _^_, _<_, _≤_}
 use native.Mathlib.Nat.{mod-lt}
 use native.Mathlib.Omega.{arith}
+use borrow.Author.Needs.{needs}
 use lib.Dec.{eqb, ltb}
 use lib.Pow.{pow-pos}
 use Rattle.std.proofs.shelf.Tests.{and-parts, ltb-true}
-use Rattle.layout.specs.Rule.{quotient, remainder, many}
+use Rattle.layout.specs.Rule.{quotient, remainder, many, insert}
 use Rattle.layout.specs.Load.{start}
 use Rattle.blocks.specs.Views.{remainderIn}
+use Rattle.words.proofs.Rows.{Words}
+use Rattle.layout.proofs.Inserts.{sorted-insert}
+use Rattle.blocks.specs.Views.{Shows}
+use Rattle.blocks.proofs.Forms.{words-from-views}
+use Rattle.filter.proofs.Held.{is-sorted}
 use Rattle.filter.specs.Meaning.{heldIn}
 use Rattle.filter.specs.Editing.{EntryPut}
 use Rattle.filter.proofs.Edited.{offsets-few, put-room, put-result}
@@ -67,5 +73,7 @@ returns c =
     let put1 = subst (λ x. EntryPut r ws vs x P (c .args .u .0) (c .remainder-of-rem .result) (eqb P T) (c .both .result)) q (c .write-entry .ensures) in
     let put2 = subst (λ x. EntryPut r ws vs (quotient r p) P (c .args .u .0) x (eqb P T) (c .both .result)) rest put1 in
     let put3 = subst (λ x. EntryPut r ws vs (quotient r p) P (c .args .u .0) (remainder r p) (eqb P T) x) (c .both .ensures) put2 in
-    let result = put-result r blocks ws (c .pre .sound) p S T P starts stops lo hi below here (c .args .u .0) (c .pre .free) vs (c .pre .below) (omega (arith, c .pre .sound .sized)) put3 in
-    record { sound = result .0; held = result .1 }
+    let shows = put-result r blocks ws (c .pre .sound) p S T P starts stops lo hi below here (c .args .u .0) (c .pre .free) vs put3 in
+    let all : Words vs = λ k. search needs in
+    let order = is-sorted (insert p (heldIn r blocks ws)) (sorted-insert p (heldIn r blocks ws) (c .pre .sound .rising)) in
+    words-from-views r (insert p (heldIn r blocks ws)) (omega arith) vs all (subst (Shows r vs) (sym order) shows) blocks (omega (arith, c .pre .sound .sized))

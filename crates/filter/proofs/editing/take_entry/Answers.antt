@@ -2,10 +2,16 @@ use mathlib.Core.Path.{_≡_, sym, ap, subst, _∙_}
 use mathlib.Core.Bool.{true, _&&_}
 use Prim.Native.Nat.{ℕ, _+_, _-_, _*_, _^_, _<_, _≤_}
 use native.Mathlib.Omega.{arith}
+use borrow.Author.Needs.{needs}
 use lib.Dec.{eqb, ltb}
 use Rattle.std.proofs.shelf.Tests.{and-parts, ltb-true}
-use Rattle.layout.specs.Rule.{quotient, remainder, many}
+use Rattle.layout.specs.Rule.{quotient, remainder, many, remove}
 use Rattle.layout.specs.Load.{start, FirstIdle}
+use Rattle.words.proofs.Rows.{Words}
+use Rattle.layout.proofs.Inserts.{sorted-remove}
+use Rattle.blocks.specs.Views.{Shows}
+use Rattle.blocks.proofs.Forms.{words-from-views}
+use Rattle.filter.proofs.Held.{is-sorted}
 use Rattle.filter.specs.Meaning.{heldIn}
 use Rattle.filter.specs.Editing.{EntryGone}
 use Rattle.filter.proofs.Edited.{run-below, gone-room, gone-waits, gone-result}
@@ -53,5 +59,7 @@ returns c =
     let vs = c .write-gap .last .words in
     let g1 = subst (λ x. EntryGone r ws vs x P (t - 1) (c .both .result) (eqb (S + 1) T)) q (c .write-gap .ensures) in
     let g2 = subst (λ x. EntryGone r ws vs (quotient r p) P (t - 1) x (eqb (S + 1) T)) (c .both .ensures) g1 in
-    let result = gone-result r blocks ws (c .pre .sound) p S T P t (c .pre .starts) (c .pre .stops) (c .pre .within .0) (c .pre .within .1) (c .pre .found) idle vs (omega (arith, c .pre .sound .sized)) g2 in
-    record { sound = result .0; held = result .1 }
+    let shows = gone-result r blocks ws (c .pre .sound) p S T P t (c .pre .starts) (c .pre .stops) (c .pre .within .0) (c .pre .within .1) (c .pre .found) idle vs g2 in
+    let all : Words vs = λ k. search needs in
+    let order = is-sorted (remove p (heldIn r blocks ws)) (sorted-remove p (heldIn r blocks ws) (c .pre .sound .rising)) in
+    words-from-views r (remove p (heldIn r blocks ws)) (omega arith) vs all (subst (Shows r vs) (sym order) shows) blocks (omega (arith, c .pre .sound .sized))
