@@ -4,3 +4,4 @@ pub mod Editings
 pub mod Locatings
 pub mod Writings
 pub mod Edited
+pub mod Slotting

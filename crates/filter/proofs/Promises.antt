@@ -23,7 +23,7 @@ use Rattle.layout.proofs.Inserts.{sorted-sorted, sorted-insert, sorted-remove, 
 use Rattle.layout.proofs.Rooms.{insert-room-law, remove-room-law, used-law}
 use Rattle.layout.proofs.Sorts.{length-sorted, length-remove}
 use Rattle.filter.specs.Meaning.{sizeOf, entriesOf, Sound}
-use Rattle.filter.specs.Filters.{wordsOf, fingerprints, slotsOf, laidOver, clearedOver, Narrow, Crowds, FullFrom, LaidOut, Added, Taken}
+use Rattle.filter.specs.Filters.{wordsOf, fingerprints, slotsOf, laidOver, clearedOver, Narrow, Crowds, FreeFrom, FullFrom, LaidOut}
 use Rattle.filter.specs.declared.fault.FilterFault.{FilterFault}
 use Rattle.filter.specs.declared.fault.FilterFault.the-variants.{NoSlot}
 use Rattle.filter.specs.declared.plan.Plan.{Plan}
@@ -125,18 +125,18 @@ more-facts f p u held vs small free l len count is =
     (λ k g. all-getD (λ x. x < bound) (insert p es) k 0 g (all-insert (λ x. x < bound) p es small (all-from-getD (λ x. x < bound) es 0 (f .narrow))))
     (omega (arith, count, f .counted, length-insert p es)) is
 
-pub added : (f g : Filter) (p u : ℕ) → g .plan ≡ f .plan → g .blocks ≡ f .blocks → p < 2 ^ (f .plan .q + f .plan .r)
-    → FirstFree (many (f .plan .r) (fingerprints f)) (quotient (f .plan .r) p) u → u < slotsOf f
-    → wordsOf g ≡ laidOver (f .plan .r) (f .blocks) (insert p (fingerprints f)) (wordsOf f) → Added f g p (Ok tt)
-added f g p u ep eb small free l is =
+-- what `Added` says, of the words that were left
+pub added : (f : Filter) (p u : ℕ) (vs : List ℕ) → FirstFree (many (f .plan .r) (fingerprints f)) (quotient (f .plan .r) p) u → u < slotsOf f
+    → vs ≡ laidOver (f .plan .r) (f .blocks) (insert p (fingerprints f)) (wordsOf f)
+    → Roomy (slotsOf f) (f .plan .r) (p ∷ fingerprints f) × FreeFrom f (quotient (f .plan .r) p)
+      × (entriesOf (f .plan .r) (f .blocks) vs ≡ insert p (fingerprints f)) × (vs ≡ laidOver (f .plan .r) (f .blocks) (p ∷ fingerprints f) (wordsOf f))
+added f p u vs free l is =
     let es = fingerprints f in
     let r = f .plan .r in
     let room = insert-room-law (slotsOf f) r p es (sorted-is es (f .rising)) (f .roomy) .1 u free l in
-    ( small
-    , room-any-order (slotsOf f) r (p ∷ es) (subst (Roomy (slotsOf f) r) (sym (sorted-more f p)) room)
+    ( room-any-order (slotsOf f) r (p ∷ es) (subst (Roomy (slotsOf f) r) (sym (sorted-more f p)) room)
     , (u, free .from, l, used-shown f u ∙ cond-false (ltb 0 (load (many r es) u + many r es u)) 1 0 (le-ltb 0 (load (many r es) u + many r es u) (omega (arith, free .free))))
-    , ap₂ (λ pl b. entriesOf (pl .r) b (wordsOf g)) ep eb
-        ∙ entries-are r (f .blocks) (f .plan .some) (few-of f) (insert p es) (drop (sizeOf r (f .blocks)) (wordsOf f)) (wordsOf g) (more-rising f p) room is
+    , entries-are r (f .blocks) (f .plan .some) (few-of f) (insert p es) (drop (sizeOf r (f .blocks)) (wordsOf f)) vs (more-rising f p) room is
     , is ∙ ap (λ x. x ++ drop (sizeOf r (f .blocks)) (wordsOf f)) (ap (filterWords r (f .blocks)) (sym (sorted-more f p)) ∙ words-any-order r (f .blocks) (p ∷ es)) )
 
 pub not-added : (f : Filter) (p : ℕ) → p < 2 ^ (f .plan .q + f .plan .r)
@@ -172,16 +172,11 @@ less-facts f p held vs there len sum is =
     (λ k g. all-getD (λ x. x < bound) (remove p es) k 0 g (all-remove (λ x. x < bound) p es (all-from-getD (λ x. x < bound) es 0 (f .narrow))))
     (omega (arith, sum, f .counted, length-remove p es there)) is
 
-pub taken : (f g : Filter) (p : ℕ) → g .plan ≡ f .plan → g .blocks ≡ f .blocks → p < 2 ^ (f .plan .q + f .plan .r) → 0 < count p (fingerprints f)
-    → wordsOf g ≡ laidOver (f .plan .r) (f .blocks) (remove p (fingerprints f)) (wordsOf f) → Taken f g p (Ok tt)
-taken f g p ep eb small there is =
-    let es = fingerprints f in
-    let r = f .plan .r in
-    ( small
-    , there
-    , ap₂ (λ pl b. entriesOf (pl .r) b (wordsOf g)) ep eb
-        ∙ entries-are r (f .blocks) (f .plan .some) (few-of f) (remove p es) (drop (sizeOf r (f .blocks)) (wordsOf f)) (wordsOf g) (less-rising f p) (remove-room-law (slotsOf f) r p es (f .roomy)) is
-    , is )
+pub taken : (f : Filter) (p : ℕ) (vs : List ℕ) → vs ≡ laidOver (f .plan .r) (f .blocks) (remove p (fingerprints f)) (wordsOf f)
+    → entriesOf (f .plan .r) (f .blocks) vs ≡ remove p (fingerprints f)
+taken f p vs is =
+    entries-are (f .plan .r) (f .blocks) (f .plan .some) (few-of f) (remove p (fingerprints f)) (drop (sizeOf (f .plan .r) (f .blocks)) (wordsOf f)) vs (less-rising f p)
+    (remove-room-law (slotsOf f) (f .plan .r) p (fingerprints f) (f .roomy)) is
 
 -- ---- none
 

@@ -10,6 +10,7 @@ use crate::plan::Plan;
 
 mod calls;
 mod edits;
+mod reading;
 
 /// A quotient filter over lent words. Every filter holds the layout of some list of fingerprints:
 /// those that are read back from its words.

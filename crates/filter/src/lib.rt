@@ -5,6 +5,7 @@ mod filter;
 mod laying;
 mod plan;
 mod runs;
+mod slots;
 
 pub use blocks::Quotient;
 pub use blocks::Slot;

@@ -8,7 +8,12 @@ use Rattle.filter.proofs.Promises.{own-of, room-of, few-of, held-few, more-fac
 use Rattle.filter.proofs.filter.Filter.add.Needs as need
 
 pub returns-in-rest : need.returns-in-rest
-returns-in-rest c = ?
+returns-in-rest c =
+    let f = c .args .self .now in
+    let p = c .args .fingerprint in
+    let small : p < 2 ^ (f .plan .q + f .plan .r) = ltb-true p _ (sym (c .if-not-admits .ensures tt)) in
+    let no = not-added f p small (c .in-rest .ensures tt) in
+    record { plan = refl; blocks = refl; name = refl; done = (small, no .0, no .1, refl) }
 
 pub put-in-requires : need.put-in-requires
 put-in-requires c κs =
@@ -26,9 +31,10 @@ pub returns : need.returns
 returns c =
     let f = c .args .self .now in
     let p = c .args .fingerprint in
+    let more = added f p (c .in-Some .u .0) (c .put-in .last .words) (c .in-Some .ensures tt .0) (c .in-Some .ensures tt .1) (c .put-in .ensures .words) in
     record {
       plan = refl;
       blocks = refl;
       name = refl;
-      done = added f _ p (c .in-Some .u .0) refl refl (ltb-true p _ (sym (c .if-not-admits .ensures tt))) (c .in-Some .ensures tt .0) (c .in-Some .ensures tt .1) (c .put-in .ensures .words);
+      done = (ltb-true p _ (sym (c .if-not-admits .ensures tt)), more .0, more .1, more .2, more .3);
     }

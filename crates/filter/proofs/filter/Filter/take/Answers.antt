@@ -40,5 +40,5 @@ returns c =
       plan = refl;
       blocks = refl;
       name = refl;
-      done = taken f _ p refl refl (ltb-true p _ (sym (c .if-not-admits .ensures tt))) there (c .take-out .ensures .words);
+      done = (ltb-true p _ (sym (c .if-not-admits .ensures tt)), there, taken f p (c .take-out .last .words) (c .take-out .ensures .words), c .take-out .ensures .words);
     }
