@@ -37,7 +37,22 @@ fn list_in(heap: Global, words: &[u64], width: Width, blocks: u32, held: u32) ->
     read_all(heap, &words[0..blocks as usize * (width.bits as usize + 3)], width, blocks, held)
 }
 
+/// The words of the blocks that the words begin with.
+fn blocks_in(words: &[u64], width: Width, blocks: u32) -> &[u64]
+    requires room { ⌜ sizeOf (width .bits) blocks ≤ length (now words) ⌝ }
+    ensures { λ ws. ⌜ now ws ≡ take (sizeOf (width .bits) blocks) (now (words .entry)) ⌝ }
+{
+    &words[0..blocks as usize * (width.bits as usize + 3)]
+}
+
 impl Filter<'_> {
+    /// The words of the blocks: the layout of the entries, whatever was done to the filter before.
+    pub fn words(&self) -> &[u64]
+        ensures { λ ws. ⌜ now ws ≡ filterWords (now (self .entry) .plan .r) (now (self .entry) .blocks) (fingerprints (now (self .entry))) ⌝ }
+    {
+        blocks_in(self.words, Width { bits: self.plan.r }, self.blocks)
+    }
+
     /// The quotient and the remainder of the entry in a slot; none where the slot is free, and a slot past the last is free.
     pub fn slot(&self, s: Slot) -> Option<(Quotient, u32)>
         ensures { λ o. ⌜ o ≡ slotShown (now (self .entry) .plan .r) (fingerprints (now (self .entry))) (s .0) ⌝ }
