@@ -4,7 +4,7 @@ use mathlib.Core.Bool.{Bool}
 use mathlib.Core.List.{List, [], _∷_, _++_}
 use Prim.Native.Nat.{ℕ, _+_, _*_, _^_, _≤_, _<_}
 use lib.Dec.{ltb}
-use lib.ListN.{length, getD, drop, replicate}
+use lib.ListN.{length, getD, take, drop, replicate}
 use denote.Ref.{now}
 use Rattle.std.specs.declared.result.Result.{Result}
 use Rattle.std.specs.declared.result.Result.the-variants.{Ok, Err}
@@ -35,6 +35,13 @@ laidOver r blocks ps ws = filterWords r blocks ps ++ drop (sizeOf r blocks) ws
 -- all words of the blocks 0, and what stood after them
 abbrev pub clearedOver : ℕ → ℕ → List ℕ → List ℕ
 clearedOver r blocks ws = replicate (sizeOf r blocks) 0 ++ drop (sizeOf r blocks) ws
+
+-- The words ws of the blocks of f depend on its entries alone, not on what was asked of it before: any filter of that plan and size that holds the same
+-- entries has these words, and only such a one has them.
+abbrev pub WordsOfList : Filter → List ℕ → Type 0
+WordsOfList f ws = (g : Filter) → g .plan ≡ f .plan → g .blocks ≡ f .blocks
+    → (fingerprints g ≡ fingerprints f → take (sizeOf (g .plan .r) (g .blocks)) (wordsOf g) ≡ ws)
+    × (take (sizeOf (g .plan .r) (g .blocks)) (wordsOf g) ≡ ws → fingerprints g ≡ fingerprints f)
 
 -- each is a fingerprint under the plan
 abbrev pub Narrow : Plan → List ℕ → Type 0

@@ -69,6 +69,23 @@ pub(crate) fn stop_of(words: &[u64], width: Width, blocks: u32, c: Quotient) -> 
     after_runs(words, width, blocks, c, k)
 }
 
+/// The last slot of the run of `c`: none where it has no entry.
+pub(crate) fn end_of(words: &[u64], width: Width, blocks: u32, c: Quotient) -> Option<Slot>
+    requires sound { ⌜ Sound (width .bits) blocks (now words) ⌝ }
+    ensures { λ o. ⌜ BySome o
+        (many (width .bits) (heldIn (width .bits) blocks (now (words .entry))) (c .0) ≡ 0)
+        (λ e. (0 < many (width .bits) (heldIn (width .bits) blocks (now (words .entry))) (c .0))
+            × (e .0 ≡ (start (many (width .bits) (heldIn (width .bits) blocks (now (words .entry)))) (c .0) + many (width .bits) (heldIn (width .bits) blocks (now (words .entry))) (c .0)) - 1)) ⌝ }
+{
+    let from = start_of(words, width, blocks, c);
+    let to = stop_of(words, width, blocks, c);
+    if from.0 < to.0 {
+        Some(Slot(to.0 - 1))
+    } else {
+        None
+    }
+}
+
 /// The first free slot at or after that of quotient `c`: none where there is none below the last.
 pub(crate) fn first_free(words: &[u64], width: Width, blocks: u32, c: Quotient) -> Option<Slot>
     requires sound { ⌜ Sound (width .bits) blocks (now words) ⌝ }
