@@ -6,6 +6,8 @@ mod laying;
 mod plan;
 mod runs;
 mod slots;
+#[cfg(test)]
+mod tests;
 
 pub use blocks::Quotient;
 pub use blocks::Slot;

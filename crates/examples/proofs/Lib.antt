@@ -1,0 +1,4 @@
+pub mod Words
+pub mod Refusals
+pub mod Accepts
+pub mod Selects
