@@ -19,7 +19,6 @@ use filter::Filter;
 use filter::FilterFault;
 use filter::Plan;
 use filter::Quotient;
-use filter::Slot;
 use std::alloc::AllocError;
 use std::alloc::Global;
 use std::io;
@@ -150,6 +149,7 @@ fn explain(rt: &LibcRuntime, fault: &Fault) -> io::Result<()> {
     }
 }
 
+/// Runs the program, and says why where it stops.
 fn main(rt: LibcRuntime) -> Result<(), Fault> {
     let done = run(&rt);
     if let Err(fault) = &done {
