@@ -1,4 +1,6 @@
 //! What is written in answer to a line of a sheet.
+#![tactic(auto)]
+
 mod done;
 mod fault;
 mod text;

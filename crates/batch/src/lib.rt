@@ -1,4 +1,6 @@
 //! A text of commands as operations of two books, and which of its lines are refused.
+#![tactic(auto)]
+
 mod lines;
 mod reading;
 mod reporting;

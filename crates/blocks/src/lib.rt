@@ -1,4 +1,6 @@
 //! The flat words of a filter seen as blocks: each bit, offset and remainder read and written.
+#![tactic(auto)]
+
 ghost use Rattle.std.specs.Prelude.{◌≡◌, ℕ, ◌+◌, ◌*◌, ◌/◌, ◌%◌, ◌^◌, ◌<◌, ◌≤◌, length, if◌then◌else◌, ◌==◌};
 ghost use Rattle.blocks.specs.Views.{word_index, place_of, occupied_bit_in, runend_in, offset_in, remainder_in};
 ghost use Rattle.blocks.specs.Writes.{WroteOccupied, WroteRunend, WroteOffset, WroteRemainder};

@@ -1,4 +1,6 @@
 //! Replays one list of operations on books over a list and over a grid, and prints the answers and the filter's words.
+#![tactic(auto)]
+
 use filter::Filter;
 use gridtable::GridTable;
 use history::{Answer, Found, Operation};

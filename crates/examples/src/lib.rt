@@ -1,4 +1,6 @@
 //! Worked examples of the filter: one theorem.
+#![tactic(auto)]
+
 ghost use Rattle.examples.specs.Examples.{Examples};
 
 /// The theorem that the filter's calls do on these examples what the specification says. The answer is 0; what counts is the contract.

@@ -3,6 +3,8 @@
 //! A figure is one digit or more, with no zero in front of another digit. A line of numbers is
 //! `L R V`: two glyph numbers, 0 to 65,535, and a value, -32,768 to 32,767, parted by single spaces.
 //! Only a value may have a minus, and `-0` is none.
+#![tactic(auto)]
+
 ghost use Rattle.std.specs.Prelude.{◌≡◌, MatchResult};
 ghost use Rattle.figures.specs.Figures.{Read, NoFigure, Whole, NoWhole, Spaced, NoSpaced, Natural};
 ghost use Rattle.figures.specs.Amounts.{Glyphed, Weighed, Paired};

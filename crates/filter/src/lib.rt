@@ -1,4 +1,6 @@
 //! A rank-and-select quotient filter over lent words.
+#![tactic(auto)]
+
 mod editing;
 mod fault;
 mod filter;

@@ -1,4 +1,6 @@
 //! Reads a log of commands from standard input, runs them on one filter, and prints what each answers.
+#![tactic(auto)]
+
 ghost use Rattle.std.specs.Prelude.{◌≡◌, ◌+◌, ◌*◌, min, IfOk, vec_len};
 
 mod arguments;

@@ -1,4 +1,6 @@
 //! The lines of a sheet: what each asks, and of which book.
+#![tactic(auto)]
+
 mod command;
 mod fault;
 mod fields;

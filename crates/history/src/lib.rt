@@ -1,4 +1,6 @@
 //! What is asked of a book, what it answers, and the law over whole histories.
+#![tactic(auto)]
+
 mod answer;
 mod fault;
 mod operation;

@@ -1,4 +1,6 @@
 //! Answers the sheet on standard input, line by line, by a kerning book and a ligature book that begin empty.
+#![tactic(auto)]
+
 ghost use Rattle.std.specs.Prelude.{◌≡◌};
 
 use answers::write_fault;

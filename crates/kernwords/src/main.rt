@@ -1,4 +1,6 @@
 //! Reads a kerning list from standard input, and prints the words of the filter that ships with it.
+#![tactic(auto)]
+
 mod arguments;
 mod fault;
 mod filling;

@@ -1,4 +1,6 @@
 //! The kinds of record that a table can hold, and the fingerprints of their keys.
+#![tactic(auto)]
+
 mod fingerprint;
 mod hash;
 mod kern;

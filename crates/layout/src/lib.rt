@@ -1,4 +1,6 @@
 //! The layout rule of the filter, the words that follow from it, and its laws.
+#![tactic(auto)]
+
 ghost use Rattle.std.specs.Prelude.{◌≡◌, ℕ, ◌≤◌};
 ghost use Rattle.layout.specs.All.{Laws};
 ghost use Rattle.layout.specs.Rule.{Sorted, Roomy};

@@ -1,4 +1,6 @@
 //! Whole histories of a book: operations performed in order, and the law that holds of them.
+#![tactic(auto)]
+
 mod fault;
 mod replaying;
 

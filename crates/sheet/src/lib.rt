@@ -1,4 +1,6 @@
 //! Sheets of commands for two books: the lines of a sheet, and what a line does.
+#![tactic(auto)]
+
 mod asking;
 mod lent;
 mod line;

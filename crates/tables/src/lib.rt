@@ -1,4 +1,6 @@
 //! The interface of a table of records, for any kind, and what a table means.
+#![tactic(auto)]
+
 mod fault;
 mod record;
 mod table;

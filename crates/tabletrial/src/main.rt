@@ -1,4 +1,6 @@
 //! Makes the same calls on a list table and on a grid table, and prints what each answers.
+#![tactic(auto)]
+
 mod steps;
 
 use gridtable::GridTable;

@@ -1,4 +1,6 @@
 //! Tries the published values of FNV-1a with 64 bits.
+#![tactic(auto)]
+
 use kinds::{Fingerprint, Fnv1a, Ligature, Sequence, fnv1a};
 use std::io;
 

@@ -1,3 +1,5 @@
+#![tactic(auto)]
+
 ghost use Rattle.std.specs.Prelude.{◌≡◌, ℕ, ◌+◌, ◌*◌, ◌/◌, ◌%◌, ◌^◌, ◌<◌, ◌≤◌, min, ◌⊎◌, length, if◌then◌else◌, MatchOption, ◌==◌, nat_eq, slice_index, slice_set};
 ghost use Rattle.words.specs.Bits.{field, bit_at, ones_under, Selected};
 ghost use Rattle.words.specs.Row.{row_of};
