@@ -1,7 +1,7 @@
 -- Sorted lists with the same fingerprints are one list, and a list that was sorted is `sorted` of what it was.
 use Rattle.std.proofs.Common.{◌≡◌, ℕ, zero, suc, ◌+◌, ◌-◌, ◌<◌, ◌≤◌, Bool, true, false, cond, eqb, ◌≢◌, ◌⊎◌, List, [], ◌∷◌, length, get_or, count_by, filter, sym, refl, ap, ◌∙◌, ap₂, inl, inr, ⊎_elim, arith}
 use Rattle.std.specs.Ordering.{is_lt, nat_cmp}
-use Rattle.std.specs.List.Sorted.{IsPermutation, IsSortedWithin, IsNonDecreasing}
+use Rattle.std.specs.List.Sorted.{IsPermutation, IsSortedByKey, IsNonDecreasing}
 use Rattle.std.specs.List.{AllByRecursion as All}
 use Rattle.std.proofs.lemmas.List.Sums.{length-filter}
 use Rattle.std.proofs.lemmas.List.Sorted.{sum_by-IsPermutation, IsNonDecreasingBy-from_sort}
@@ -63,9 +63,9 @@ sorted_same_counts xs ys h =
     sorted_one (sorted xs) (sorted ys) (sorted_sorted xs) (sorted_sorted ys) (λ p. (count_law p p xs).0 ∙ h p ∙ sym (count_law p p ys).0)
 
 -- the same from the clauses of `sort`
-pub after_sort : (xs ys : List ℕ) → IsPermutation xs ys → length ys ≡ length xs → IsSortedWithin (λ x y. is_lt (nat_cmp x y)) ys 0 (length xs) → Sorted ys × (ys ≡ sorted xs)
-after_sort xs ys h len up =
-    let rises : IsNonDecreasing ys = IsNonDecreasingBy-from_sort (λ x. x) ys (length xs) len up in
+pub after_sort : (xs ys : List ℕ) → IsPermutation xs ys → IsSortedByKey (λ x. x) nat_cmp ys → Sorted ys × (ys ≡ sorted xs)
+after_sort xs ys h up =
+    let rises : IsNonDecreasing ys = IsNonDecreasingBy-from_sort (λ x. x) ys up in
     (sorted_rising ys rises, sorted_from_sort xs ys h rises)
 
 pub length_sorted : (ps : List ℕ) → length (sorted ps) ≡ length ps

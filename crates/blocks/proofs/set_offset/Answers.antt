@@ -10,7 +10,7 @@ returns-then-at-words c =
     let ws = c.args.words.now in
     let b = c.args.b in
     let v = c.args.v in
-    let e = c.word-of-at.ensures in
+    let e = c.word_of-at.ensures in
     let all : Words ws = λ k. search rules in
     record {
       inside = λ l. subst (λ j. WroteOffset r ws (set ws j v) b v) (sym e) (wrote_offset r ws v all (search rules) b l);

@@ -10,11 +10,11 @@ returns-then-at-words c =
     let r = c.args.width.bits in
     let ws = c.args.words.now in
     let i = c.args.s.0 in
-    let v = c.with-bit.result in
+    let v = c.with_bit.result in
     let u : ℕ = cond c.args.b 1 0 in
-    let e = c.word-of-at.ensures in
+    let e = c.word_of-at.ensures in
     let all : Words ws = λ k. search rules in
-    let bits = subst (λ j. (k : ℕ) → k < 64 → bit_at v k ≡ cond (eqb k (i % 64)) u (bit_at (get_or ws j 0) k)) e c.with-bit.ensures in
+    let bits = subst (λ j. (k : ℕ) → k < 64 → bit_at v k ≡ cond (eqb k (i % 64)) u (bit_at (get_or ws j 0) k)) e c.with_bit.ensures in
     record {
       inside = λ l. subst (λ j. WroteRunend r ws (set ws j v) i u) (sym e) (wrote_runend r ws v all (omega arith) i u l bits);
       past = λ l. absurd (omega arith);

@@ -7,17 +7,17 @@ use Rattle.figures.proofs.natural.Goals as goal
 pub returns-then-b-lt48 : goal.returns-then-b-lt48
 returns-then-b-lt48 c n small f = no_other c.args.bytes.now c.loop-b.b-index n c.loop-b-test.true (search rules) f
 
-pub returns-in-err-checked-mul : goal.returns-in-err-checked-mul
-returns-in-err-checked-mul c = rw c.from-residual.ensures (λ n small f.
-    let over = c.in-err-checked-mul.ensures in
+pub returns-in_err-checked_mul : goal.returns-in_err-checked_mul
+returns-in_err-checked_mul c = rw c.from_residual.ensures (λ n small f.
+    let over = c.in_err-checked_mul.ensures in
     let sum = too_long c.args.bytes.now c.loop-b.b-index n c.loop-b-test.true (search rules) (search rules) small f in
     over (omega (arith, c.loop-b.invariant.1)))
 
-pub returns-in-err-number : goal.returns-in-err-number
-returns-in-err-number c = rw c.from-residual-in-err-number.ensures (λ n small f.
-    let over = c.in-err-number.ensures in
+pub returns-in_err-number : goal.returns-in_err-number
+returns-in_err-number c = rw c.from_residual-in_err-number.ensures (λ n small f.
+    let over = c.in_err-number.ensures in
     let sum = too_long c.args.bytes.now c.loop-b.b-index n c.loop-b-test.true (search rules) (search rules) small f in
-    over (omega (arith, c.loop-b.invariant.1, c.from.ensures, c.in-ok-checked-mul.ensures)))
+    over (omega (arith, c.loop-b.invariant.1, c.from.ensures, c.in_ok-checked_mul.ensures)))
 
 pub loop-b-preserved : goal.loop-b-preserved
 loop-b-preserved c =
@@ -26,7 +26,7 @@ loop-b-preserved c =
     let digit = digit_value _ low high in (
       digits_more 10 _ _ c.loop-b-test.true c.loop-b.invariant.0 (omega arith),
       let more = digits_value_more 10 c.args.bytes.now c.loop-b.b-index c.loop-b-test.true in
-          omega (arith, c.loop-b.invariant.1, c.from.ensures, c.in-ok-checked-mul.ensures, c.in-ok-number.ensures),
+          omega (arith, c.loop-b.invariant.1, c.from.ensures, c.in_ok-checked_mul.ensures, c.in_ok-number.ensures),
       search rules,
     )
 

@@ -75,7 +75,7 @@ fn lay_list(
         (λ _. Roomy (64 * blocks) width.bits (sorted list.old) × (held.new ≡ length list.old) × (words.new ≡ laid_over width.bits blocks (sorted list.old) words.old))
         (λ e. (e ≡ FilterFault.NoSlot) × (Roomy (64 * blocks) width.bits (sorted list.old) → ⊥) × (held.new ≡ 0) × (words.new ≡ cleared_over width.bits blocks words.old)) }
 {
-    list.sort();
+    list.sort_unstable();
     if slots_needed(list, width) > 64 * blocks as u64 {
         clear_blocks(words, width, blocks);
         *held = 0;

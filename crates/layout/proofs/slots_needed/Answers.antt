@@ -12,8 +12,8 @@ half p k l g =
     let e : 1 + (k - 1) ≡ k = omega arith in
     omega (arith, shr_le (p / 2 ^ 1) (k - 1), shr-shr p 1 (k - 1), ap (λ j. p / 2 ^ j) e)
 
-pub overflow-add-next : goal.overflow-add-next
-overflow-add-next c =
+pub overflow_add-next : goal.overflow_add-next
+overflow_add-next c =
     let p = get_or c.args.rising.now c.loop-p.p-index 0 in
     let fits : p < 2 ^ 64 = search rules in
     omega (arith, half p c.args.width.bits fits c.args.width.some)

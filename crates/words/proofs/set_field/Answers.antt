@@ -14,9 +14,9 @@ returns-then-last-words c =
     let h : Words ws = λ i. search rules in
     let small : u < 2 ^ k = rw c.low.ensures (mod-lt c.args.v (pow_pos k)) in
     let room : p + k ≤ 64 * length ws = omega arith in
-    let row : row_of c.set-pair.new.words ≡ put (row_of ws) p k u =
-    ap row_of (c.set-pair.ensures ∙ ap (with_pair ws (p / 64))
-    (put_code 128 c.pair-both.result (p % 64) k u c.pair-both.type-inv (omega arith) (omega arith) small
+    let row : row_of c.set_pair.new.words ≡ put (row_of ws) p k u =
+    ap row_of (c.set_pair.ensures ∙ ap (with_pair ws (p / 64))
+    (put_code 128 c.pair-both.result (p % 64) k u c.pair-both.type_inv (omega arith) (omega arith) small
     ∙ ap (λ x. put x (p % 64) k u) c.pair-both.ensures))
     ∙ row_put ws p k u h (omega arith) small (omega arith) room in
     record {

@@ -5,14 +5,14 @@ use Rattle.answers.proofs.writing.+put_number.Goals as goal
 pub bounds-buf-at : goal.bounds-buf-at
 bounds-buf-at t c = omega (arith, length_one c.args.n c.if-n-lt10.true)
 
-pub put-number-at-requires : goal.put-number-at-requires
-put-number-at-requires t c = let long = length_step c.args.n c.if-n-lt10.false (omega arith) in (omega arith, omega arith)
+pub put_number-at-requires : goal.put_number-at-requires
+put_number-at-requires t c = let long = length_step c.args.n c.if-n-lt10.false (omega arith) in (omega arith, omega arith)
 
 pub bounds-buf-at-else-n-lt10 : goal.bounds-buf-at-else-n-lt10
 bounds-buf-at-else-n-lt10 t c = let long = length_step c.args.n c.if-n-lt10.false (omega arith) in omega arith
 
-pub overflow-add-result-else-n-lt10 : goal.overflow-add-result-else-n-lt10
-overflow-add-result-else-n-lt10 t c = let long = length_step c.args.n c.if-n-lt10.false (omega arith) in search rules
+pub overflow_add-result-else-n-lt10 : goal.overflow_add-result-else-n-lt10
+overflow_add-result-else-n-lt10 t c = let long = length_step c.args.n c.if-n-lt10.false (omega arith) in search rules
 
 pub returns-then-n-lt10 : goal.returns-then-n-lt10
 returns-then-n-lt10 t c =
@@ -24,5 +24,5 @@ returns-else-n-lt10 t c =
     let long = length_step c.args.n c.if-n-lt10.false (omega arith) in
     record {
       end = omega arith;
-      bytes = rw c.put-number-at.ensures.end (laid_step c.args.at c.args.n c.args.buf.now c.put-number-at.new.buf c.if-n-lt10.false (omega arith) c.requires c.put-number-at.ensures.bytes);
+      bytes = rw c.put_number-at.ensures.end (laid_step c.args.at c.args.n c.args.buf.now c.put_number-at.new.buf c.if-n-lt10.false (omega arith) c.requires c.put_number-at.ensures.bytes);
     }

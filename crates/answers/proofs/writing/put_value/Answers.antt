@@ -10,11 +10,11 @@ pub returns-then-v-lt0 : goal.returns-then-v-lt0
 returns-then-v-lt0 c =
     let back = to_z-of_z w32 c.args.v c.ranges.v in
     let below : lt_z c.args.v (pos 0) ≡ true = rw back at c.if-v-lt0.true in
-    let size : c.unsigned-abs.result ≡ nat_abs c.args.v = search rules in
-    let is = signed_minus c.args.v c.unsigned-abs.result below size in
+    let size : c.unsigned_abs.result ≡ nat_abs c.args.v = search rules in
+    let is = signed_minus c.args.v c.unsigned_abs.result below size in
     let long = ap length is in
     record {
       end = omega arith;
-      bytes = then_laid c.args.at c.put-at.result (45 ∷ []) (decimal c.unsigned-abs.result) c.args.buf.now c.put-at.new.buf _ (omega arith) c.put-at.ensures.end c.put-at.ensures.bytes c.put-number.ensures.bytes
+      bytes = then_laid c.args.at c.put-at.result (45 ∷ []) (decimal c.unsigned_abs.result) c.args.buf.now c.put-at.new.buf _ (omega arith) c.put-at.ensures.end c.put-at.ensures.bytes c.put_number.ensures.bytes
           ∙ ap (λ l. laid c.args.at l c.args.buf.now) (sym is);
     }

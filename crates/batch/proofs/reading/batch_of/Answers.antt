@@ -20,8 +20,8 @@ loop-line-smaller c = shorter c.loop-line.left.now c.in-Some.line.now c.in-Some.
 pub loop-line-preserved : goal.loop-line-preserved
 loop-line-preserved c =
     sofar_more c.args.text.now c.loop-line.left.now c.in-Some.line.now c.in-Some.rest.now (vec_items c.loop-line.batch.kerns) (vec_items c.loop-line.batch.ligatures) (vec_items c.loop-line.batch.lines)
-    (vec_items c.note.new.batch.kerns) (vec_items c.note.new.batch.ligatures) (vec_items c.note.new.batch.lines) c.loop-line.invariant c.in-Some.ensures c.in-ok-note.ensures
+    (vec_items c.note.new.batch.kerns) (vec_items c.note.new.batch.ligatures) (vec_items c.note.new.batch.lines) c.loop-line.invariant c.in-Some.ensures c.in_ok-note.ensures
 
 pub returns : goal.returns
 returns c =
-    sofar_all c.args.text.now c.loop-line.left.now (vec_items c.loop-line.batch.kerns) (vec_items c.loop-line.batch.ligatures) (vec_items c.loop-line.batch.lines) c.loop-line.invariant c.in-default.ensures
+    sofar_all c.args.text.now c.loop-line.left.now (vec_items c.loop-line.batch.kerns) (vec_items c.loop-line.batch.ligatures) (vec_items c.loop-line.batch.lines) c.loop-line.invariant c.in_default.ensures

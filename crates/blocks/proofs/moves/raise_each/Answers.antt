@@ -14,10 +14,10 @@ loop-b-preserved c =
     let r = c.args.width.bits in
     let ws = c.args.words.now in
     let us = c.loop-b.words in
-    let vs = c.set-offset.new.words in
+    let vs = c.set_offset.new.words in
     let i = c.loop-b.b in
-    let e = c.saturating-add.ensures ∙ ap (λ n. min (n + 1) (2 ^ 64 - 1)) c.offset-v.ensures ∙ ap (λ n. min n (2 ^ 64 - 1)) (add-one (offset_in r us i)) in
-    let wrote = c.set-offset.ensures.inside (omega (arith, next i c.args.to (r + 3) c.loop-b-test.true)) in
+    let e = c.saturating_add.ensures ∙ ap (λ n. min (n + 1) (2 ^ 64 - 1)) c.offset-v.ensures ∙ ap (λ n. min n (2 ^ 64 - 1)) (add-one (offset_in r us i)) in
+    let wrote = c.set_offset.ensures.inside (omega (arith, next i c.args.to (r + 3) c.loop-b-test.true)) in
     let more = changed_more r ws raised us vs c.args.from i c.loop-b.auto.b c.loop-b.invariant.0 (subst (λ v. WroteOffset r us vs i v) e wrote) in
     (subst (λ n. ChangedOffsets raised r ws vs c.args.from n) (sym (add-one i)) more, inl (omega arith))
 

@@ -5,10 +5,10 @@ use Rattle.blocks.proofs.search.occupied_in.Goals as goal
 
 pub returns : goal.returns
 returns c =
-    let w = c.word.ensures ∙ ap (λ j. get_or c.args.words.now j 0) c.word-of.ensures in
+    let w = c.word.ensures ∙ ap (λ j. get_or c.args.words.now j 0) c.word_of.ensures in
     let at : min c.args.i 64 ≡ c.args.i = omega arith in
     omega (
       arith,
-      c.ones-below.ensures ∙ ap₂ ones_under w at,
+      c.ones_below.ensures ∙ ap₂ ones_under w at,
       occupied_ones c.args.width.bits c.args.words.now c.args.b c.args.i (omega arith),
     )

@@ -24,4 +24,4 @@ pub returns : goal.returns
 returns c =
     let r = c.args.width.bits in
     let ws = c.args.words.now in
-    found r ws c.args.b c.args.k c.word.result c.select.result (c.word.ensures ∙ ap (λ j. get_or ws j 0) c.word-of.ensures) c.select.ensures
+    found r ws c.args.b c.args.k c.word.result c.select.result (c.word.ensures ∙ ap (λ j. get_or ws j 0) c.word_of.ensures) c.select.ensures

@@ -37,16 +37,16 @@ returns-then-at-words c =
     let a : 64 * (from / 64) + from % 64 ≡ from = omega arith in
     inr (λ x _. omega (arith, c.loop-block.invariant.2, c.loop-block.invariant.3, ap (tally (runend_in r ws)) a, runend_most r ws b (64 * b + i) x (omega arith) (omega arith)))
 
-pub overflow-sub-here : goal.overflow-sub-here
-overflow-sub-here c =
-    let w = get_or c.args.words.now c.word-of-at.result 0 in
+pub overflow_sub-here : goal.overflow_sub-here
+overflow_sub-here c =
+    let w = get_or c.args.words.now c.word_of-at.result 0 in
     let i = c.loop-block.place in
     let at : min i 64 ≡ i = omega arith in
     omega (arith, ap (ones_under w) at, ones_mono w i 64 (omega arith))
 
-pub one-from-requires : goal.one-from-requires
-one-from-requires c =
-    let w = get_or c.args.words.now c.word-of-at.result 0 in
+pub one_from-requires : goal.one_from-requires
+one_from-requires c =
+    let w = get_or c.args.words.now c.word_of-at.result 0 in
     let i = c.loop-block.place in
     let at : min i 64 ≡ i = omega arith in
     (omega arith, (omega arith, omega (arith, ap (ones_under w) at, ones_mono w i 64 (omega arith))))
@@ -58,9 +58,9 @@ returns-then-left-here c =
     let from = c.args.from.0 in
     let b = c.loop-block.block in
     let i = c.loop-block.place in
-    let w = get_or ws c.word-of-at.result 0 in
+    let w = get_or ws c.word_of-at.result 0 in
     let a : 64 * (from / 64) + from % 64 ≡ from = omega arith in
-    let h = found r ws b i c.loop-block.left c.one-from.result w (ap (λ j. get_or ws j 0) c.word-of-at.ensures) (omega arith) c.one-from.ensures in
+    let h = found r ws b i c.loop-block.left c.one_from.result w (ap (λ j. get_or ws j 0) c.word_of-at.ensures) (omega arith) c.one_from.ensures in
     record {
       from = omega (arith, h.from);
       one = h.one;
@@ -73,8 +73,8 @@ loop-block-preserved c =
     let ws = c.args.words.now in
     let b = c.loop-block.block in
     let i = c.loop-block.place in
-    let w = get_or ws c.word-of-at.result 0 in
-    let e : w ≡ get_or ws (word_index r b 1) 0 = ap (λ j. get_or ws j 0) c.word-of-at.ensures in
+    let w = get_or ws c.word_of-at.result 0 in
+    let e : w ≡ get_or ws (word_index r b 1) 0 = ap (λ j. get_or ws j 0) c.word_of-at.ensures in
     let at : min i 64 ≡ i = omega arith in
     let next : 64 * (b + 1) + 0 ≡ 64 * b + 64 = omega arith in
     let mono = ones_mono w i 64 (omega arith) in (

@@ -5,13 +5,13 @@ use Rattle.blocks.proofs.search.runends_in.Goals as goal
 
 pub returns : goal.returns
 returns c =
-    let w = c.word.ensures ∙ ap (λ j. get_or c.args.words.now j 0) c.word-of.ensures in
+    let w = c.word.ensures ∙ ap (λ j. get_or c.args.words.now j 0) c.word_of.ensures in
     let at : min c.args.i 64 ≡ c.args.i = omega arith in
     record {
       count = omega (
         arith,
-        c.ones-below.ensures ∙ ap₂ ones_under w at,
+        c.ones_below.ensures ∙ ap₂ ones_under w at,
         runend_ones c.args.width.bits c.args.words.now c.args.b c.args.i (omega arith),
       );
-      few = omega (arith, c.ones-below.ensures ∙ ap (ones_under c.word.result) at, ones_few c.word.result c.args.i);
+      few = omega (arith, c.ones_below.ensures ∙ ap (ones_under c.word.result) at, ones_few c.word.result c.args.i);
     }

@@ -7,8 +7,8 @@ use Rattle.blocks.proofs.search.runends_up_to.Goals as goal
 pub loop-b-init : goal.loop-b-init
 loop-b-init c = (omega arith, omega arith)
 
-pub overflow-add-n : goal.overflow-add-n
-overflow-add-n c = omega arith
+pub overflow_add-n : goal.overflow_add-n
+overflow_add-n c = omega arith
 
 pub loop-b-preserved : goal.loop-b-preserved
 loop-b-preserved c =
@@ -17,8 +17,8 @@ loop-b-preserved c =
     (omega (arith, ap t next), omega arith)
 
 -- after the loop `n` counts the runends from the first slot of the first block up to `to`
-counted : (c : goal.After-runends-in) → (c.loop-b.n + tally (runend_in c.args.width.bits c.args.words.now) c.args.from.0
-    ≡ tally (runend_in c.args.width.bits c.args.words.now) c.args.to.0 + c.runends-in.result)
+counted : (c : goal.After-runends_in) → (c.loop-b.n + tally (runend_in c.args.width.bits c.args.words.now) c.args.from.0
+    ≡ tally (runend_in c.args.width.bits c.args.words.now) c.args.to.0 + c.runends_in.result)
     × (tally (runend_in c.args.width.bits c.args.words.now) c.args.from.0 ≤ tally (runend_in c.args.width.bits c.args.words.now) c.args.to.0)
 counted c =
     let f : ℕ → ℕ = runend_in c.args.width.bits c.args.words.now in
@@ -30,8 +30,8 @@ counted c =
     let b : 64 * (to / 64) + to % 64 ≡ to = omega arith in
     (omega (arith, ap (tally f) last, ap (tally f) a, ap (tally f) b), tally_mono f from to c.requires)
 
-pub overflow-sub-result : goal.overflow-sub-result
-overflow-sub-result c = omega (arith, (counted c).0, (counted c).1)
+pub overflow_sub-result : goal.overflow_sub-result
+overflow_sub-result c = omega (arith, (counted c).0, (counted c).1)
 
 pub returns : goal.returns
 returns c = omega (arith, (counted c).0, (counted c).1)

@@ -9,7 +9,7 @@ use Rattle.book.proofs.Refusals.{add_refused, cut_by}
 use Rattle.book.proofs.Holding.{Holds, same_then, holds_none, holds_then, cleared_again}
 use Rattle.book.proofs.Opening.{filled_none, filled_free, filled_record, crowded_record, filled_all, crowded_all}
 use Rattle.book.proofs.calls.open.Goals as goal
-use Rattle.book.proofs.calls.open.Goals.{in-Some+in-default-add, in-default}
+use Rattle.book.proofs.calls.open.Goals.{in-Some+in_default-add, in_default}
 
 pub loop-place-init : goal.loop-place-init
 loop-place-init g c = filled_none (g.P.Fingerprint.number c.args.by.now) c.clear.new.self (g.X.Table.meaning c.args.table.now).rows c.clear.ensures.empty
@@ -22,9 +22,9 @@ returns-in-Err g c =
     let e = c.clear.new.self in
     let h = c.loop-place.filter in
     let s : SameFilter f e = record { plan = c.clear.ensures.plan; blocks = c.clear.ensures.blocks; lender = c.clear.ensures.name } in
-    let is : c.fingerprint-of.result ≡ cut_to h.plan (number c.in-Some.record.key) =
-    cut_by c.fingerprint-of.result (number c.in-Some.record.key) c.plan.result h.plan c.fingerprint-of.ensures c.plan.ensures in
-    let r = add_refused h c.add.new.self c.fingerprint-of.result (number c.in-Some.record.key) c.in-Err.fault is c.in-Err.ensures.done in
+    let is : c.fingerprint_of.result ≡ cut_to h.plan (number c.in-Some.record.key) =
+    cut_by c.fingerprint_of.result (number c.in-Some.record.key) c.plan.result h.plan c.fingerprint_of.ensures c.plan.ensures in
+    let r = add_refused h c.add.new.self c.fingerprint_of.result (number c.in-Some.record.key) c.in-Err.fault is c.in-Err.ensures.done in
     let l : c.loop-place.place < length m.rows = omega (arith, c.loop-place-test.true, c.places-place-end.ensures) in
     let t : SameFilter c.add.new.self c.clear-in-Err.new.self = record { plan = c.clear-in-Err.ensures.plan; blocks = c.clear-in-Err.ensures.blocks; lender = c.clear-in-Err.ensures.name } in
     let back : Holds f h _ = holds_then f e h [] _ (holds_none f e s c.clear.ensures.empty c.clear.ensures.words) c.loop-place.invariant.holds in
@@ -32,7 +32,7 @@ returns-in-Err g c =
       filter = same_then f h c.clear-in-Err.new.self back.same (subst (λ (x : Filter). SameFilter x c.clear-in-Err.new.self) r.2 t);
       done = (
         ap FromFilter r.0,
-        crowded_all number f e m s (crowded_record number e m.rows h c.loop-place.place c.in-Some.record l c.in-Some.ensures c.loop-place.invariant c.fingerprint-of.result is r.1),
+        crowded_all number f e m s (crowded_record number e m.rows h c.loop-place.place c.in-Some.record l c.in-Some.ensures c.loop-place.invariant c.fingerprint_of.result is r.1),
         c.clear-in-Err.ensures.empty,
         cleared_again f h c.clear-in-Err.new.self _ back
             (subst (λ (x : Filter). words_of c.clear-in-Err.new.self ≡ cleared_over x.plan.r x.blocks (words_of x)) r.2 c.clear-in-Err.ensures.words),
@@ -48,12 +48,12 @@ loop-place-preserved g c =
     let i = c.loop-place.place in
     let l : i < length m.rows = omega (arith, c.loop-place-test.true, c.places-place-end.ensures) in
     elim c.match-peek.branch [
-      | in-Some+in-default-add w ↦
-          let a = w.in-default-add.ensures in
-          filled_record number e m.rows h i w.in-Some.record l w.in-Some.ensures c.loop-place.invariant w.fingerprint-of.result
-          (cut_by w.fingerprint-of.result (number w.in-Some.record.key) w.plan.result h.plan w.fingerprint-of.ensures w.plan.ensures)
+      | in-Some+in_default-add w ↦
+          let a = w.in_default-add.ensures in
+          filled_record number e m.rows h i w.in-Some.record l w.in-Some.ensures c.loop-place.invariant w.fingerprint_of.result
+          (cut_by w.fingerprint_of.result (number w.in-Some.record.key) w.plan.result h.plan w.fingerprint_of.ensures w.plan.ensures)
           w.add.new.self c.match-peek.filter w.filter-is a.plan a.blocks a.name a.done
-      | in-default w ↦ filled_free number e m.rows h i c.match-peek.filter w.filter-is l w.in-default.ensures c.loop-place.invariant
+      | in_default w ↦ filled_free number e m.rows h i c.match-peek.filter w.filter-is l w.in_default.ensures c.loop-place.invariant
     ]
 
 pub returns : goal.returns

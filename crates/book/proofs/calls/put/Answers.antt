@@ -22,21 +22,21 @@ returns-then-not-admits g c =
       undone = λ e. refl;
     }
 
-pub returns-in-err-set : goal.returns-in-err-set
-returns-in-err-set g c =
-    set_held g.K.Kind.bytes (g.X.Table.meaning c.args.table.now) (g.X.Table.meaning c.set.new.self) c.args.key c.args.value c.in-err-set.field-0.0
-    (sym c.if-not-admits.ensures) (ap is_some (sym c.look.ensures) ∙ sym c.if-is-some.ensures) c.in-err-set.ensures.done
+pub returns-in_err-set : goal.returns-in_err-set
+returns-in_err-set g c =
+    set_held g.K.Kind.bytes (g.X.Table.meaning c.args.table.now) (g.X.Table.meaning c.set.new.self) c.args.key c.args.value c.in_err-set.field-0.0
+    (sym c.if-not-admits.ensures) (ap is_some (sym c.look.ensures) ∙ sym c.if-is_some.ensures) c.in_err-set.ensures.done
 
-pub returns-then-is-some : goal.returns-then-is-some
-returns-then-is-some g c =
-    let t = c.in-ok-set.ensures in
+pub returns-then-is_some : goal.returns-then-is_some
+returns-then-is_some g c =
+    let t = c.in_ok-set.ensures in
     record {
       sound = t.sound;
       frame = t.frame;
       lender = t.lender;
       beyond = t.beyond;
       filter = same_self c.args.filter.now;
-      answer = (sym c.if-not-admits.ensures, ap is_some (sym c.look.ensures) ∙ sym c.if-is-some.ensures);
+      answer = (sym c.if-not-admits.ensures, ap is_some (sym c.look.ensures) ∙ sym c.if-is_some.ensures);
       done = (refl, t.done.2);
       undone = λ e. let z : ◌≡◌ {A = ℕ} 0 1 = cc in absurd (omega arith);
     }
@@ -51,56 +51,56 @@ returns-then-held-capacity g c =
       lender = refl;
       beyond = refl;
       filter = same_self c.args.filter.now;
-      answer = (sym c.if-not-admits.ensures, ap is_some (sym c.look.ensures) ∙ sym c.if-is-some.ensures, full);
+      answer = (sym c.if-not-admits.ensures, ap is_some (sym c.look.ensures) ∙ sym c.if-is_some.ensures, full);
       done = (refl, refl);
       undone = λ e. refl;
     }
 
-pub returns-in-err-add : goal.returns-in-err-add
-returns-in-err-add g c =
+pub returns-in_err-add : goal.returns-in_err-add
+returns-in_err-add g c =
     let f = c.args.filter.now in
     let m = g.X.Table.meaning c.args.table.now in
     let n = g.P.Fingerprint.number c.args.by.now c.args.key in
     let room : held_in m < m.capacity = omega (arith, c.if-held-capacity.false, c.held.ensures, c.capacity.ensures) in
-    let is : c.fingerprint-of.result ≡ cut_to f.plan n = cut_by c.fingerprint-of.result n c.plan.result f.plan c.fingerprint-of.ensures c.plan.ensures in
-    let a = c.in-err-add.ensures in
-    let r = add_refused f c.add.new.self c.fingerprint-of.result n c.in-err-add.field-0.0 is a.done in
-    let p = err_from_is_err_and c.from-residual-in-err-add.result c.from-residual-in-err-add.ensures.1 in
-    let e : c.from-residual-in-err-add.result ≡ Err (Filter NoSlot) = p.1 ∙ ap Err (p.2 ∙ ap Filter r.0) in
+    let is : c.fingerprint_of.result ≡ cut_to f.plan n = cut_by c.fingerprint_of.result n c.plan.result f.plan c.fingerprint_of.ensures c.plan.ensures in
+    let a = c.in_err-add.ensures in
+    let r = add_refused f c.add.new.self c.fingerprint_of.result n c.in_err-add.field-0.0 is a.done in
+    let p = err_from_is_err_and c.from_residual-in_err-add.result c.from_residual-in_err-add.ensures.1 in
+    let e : c.from_residual-in_err-add.result ≡ Err (Filter NoSlot) = p.1 ∙ ap Err (p.2 ∙ ap Filter r.0) in
     record {
       sound = c.requires;
       frame = frame_self m;
       lender = refl;
       beyond = refl;
       filter = record { plan = a.plan; blocks = a.blocks; lender = a.name };
-      answer = rw (e, ← is) (sym c.if-not-admits.ensures, ap is_some (sym c.look.ensures) ∙ sym c.if-is-some.ensures, room, r.1);
+      answer = rw (e, ← is) (sym c.if-not-admits.ensures, ap is_some (sym c.look.ensures) ∙ sym c.if-is_some.ensures, room, r.1);
       done = rw e (r.2, refl);
       undone = λ q. refl;
     }
 
-pub returns-in-err-set-2 : goal.returns-in-err-set-2
-returns-in-err-set-2 g c =
+pub returns-in_err-set-2 : goal.returns-in_err-set-2
+returns-in_err-set-2 g c =
     let m = g.X.Table.meaning c.args.table.now in
     let room : held_in m < m.capacity = omega (arith, c.if-held-capacity.false, c.held.ensures, c.capacity.ensures) in
-    set_accepted g.K.Kind.bytes m (g.X.Table.meaning c.set-2.new.self) c.args.key c.args.value c.in-err-set-2.field-0.0 (sym c.if-not-admits.ensures) room c.in-err-set-2.ensures.done
+    set_accepted g.K.Kind.bytes m (g.X.Table.meaning c.set-2.new.self) c.args.key c.args.value c.in_err-set-2.field-0.0 (sym c.if-not-admits.ensures) room c.in_err-set-2.ensures.done
 
 pub returns : goal.returns
 returns g c =
     let f = c.args.filter.now in
     let m = g.X.Table.meaning c.args.table.now in
     let n = g.P.Fingerprint.number c.args.by.now c.args.key in
-    let is : c.fingerprint-of.result ≡ cut_to f.plan n = cut_by c.fingerprint-of.result n c.plan.result f.plan c.fingerprint-of.ensures c.plan.ensures in
+    let is : c.fingerprint_of.result ≡ cut_to f.plan n = cut_by c.fingerprint_of.result n c.plan.result f.plan c.fingerprint_of.ensures c.plan.ensures in
     let room : held_in m < m.capacity = omega (arith, c.if-held-capacity.false, c.held.ensures, c.capacity.ensures) in
-    let b = c.in-ok-add.ensures in
+    let b = c.in_ok-add.ensures in
     let a = subst (λ q. Added f c.add.new.self q (Ok tt)) is b.done in
-    let t = c.in-ok-set-2.ensures in
+    let t = c.in_ok-set-2.ensures in
     record {
       sound = t.sound;
       frame = t.frame;
       lender = t.lender;
       beyond = t.beyond;
       filter = record { plan = b.plan; blocks = b.blocks; lender = b.name };
-      answer = (sym c.if-not-admits.ensures, ap is_some (sym c.look.ensures) ∙ sym c.if-is-some.ensures, room, a.1);
+      answer = (sym c.if-not-admits.ensures, ap is_some (sym c.look.ensures) ∙ sym c.if-is_some.ensures, room, a.1);
       done = (a.3, a.4, t.done.2);
       undone = λ e. let z : ◌≡◌ {A = ℕ} 0 1 = cc in absurd (omega arith);
     }

@@ -4,8 +4,8 @@ use Rattle.std.proofs.lemmas.List.{nil_from_length, take_rest}
 use Rattle.figures.proofs.Cuts.{cut_at}
 use Rattle.figures.proofs.lines.next_line.Goals as goal
 
-pub returns-then-is-empty : goal.returns-then-is-empty
-returns-then-is-empty c = search (rules, nil_from_length, true-eqb)
+pub returns-then-is_empty : goal.returns-then-is_empty
+returns-then-is_empty c = search (rules, nil_from_length, true-eqb)
 
 pub returns-then-i-text : goal.returns-then-i-text
 returns-then-i-text c =

@@ -19,7 +19,7 @@ returns-then-when c =
     let v : ℕ = cond c.args.b 1 0 in
     let some : 0 < p = c.requires.some c.if-when.true in
     let block : (p - 1) / 64 < c.args.blocks = omega arith in
-    let wrote = c.set-runend.ensures.inside (omega (arith, head_inside r ((p - 1) / 64) c.args.blocks 1 block (omega arith))) in
+    let wrote = c.set_runend.ensures.inside (omega (arith, head_inside r ((p - 1) / 64) c.args.blocks 1 block (omega arith))) in
     record {
       occupied = wrote.occupied;
       runends = λ k. wrote.runends k ∙ ap (λ x. cond x v (runend_in r ws k)) (before_is k p some ∙ with_true (eqb (suc k) p) c.args.when c.if-when.true);

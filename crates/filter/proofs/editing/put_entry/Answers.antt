@@ -17,20 +17,20 @@ small : (r p : ℕ) → remainder r p < 2 ^ r
 unfolding remainder
 small r p = mod-lt p (pow_pos r)
 
-pub write-entry-requires : goal.write-entry-requires
-write-entry-requires c =
+pub write_entry-requires : goal.write_entry-requires
+write_entry-requires c =
     let r = c.args.width.bits in
     let blocks = c.args.blocks in
     let ws = c.args.words.now in
     let p = c.args.fingerprint in
     let m = many r (held_in r blocks ws) in
-    let q = c.quotient-of-c.ensures in
-    let rest = c.remainder-of-rem.ensures in
-    let S = c.start-of-start.result.0 in
-    let T = c.stop-of-stop.result.0 in
+    let q = c.quotient_of-c.ensures in
+    let rest = c.remainder_of-rem.ensures in
+    let S = c.start_of-start.result.0 in
+    let T = c.stop_of-stop.result.0 in
     let P = c.seek-p.result.0 in
-    let starts = c.start-of-start.ensures ∙ ap (start m) q in
-    let stops = c.stop-of-stop.ensures ∙ ap (λ x. start m x + m x) q ∙ ap (λ x. x + m (quotient r p)) (sym starts) in
+    let starts = c.start_of-start.ensures ∙ ap (start m) q in
+    let stops = c.stop_of-stop.ensures ∙ ap (λ x. start m x + m x) q ∙ ap (λ x. x + m (quotient r p)) (sym starts) in
     let below : (k : ℕ) → S ≤ k → k < P → remainder_in r ws k < remainder r p = λ k a b. omega (arith, rest, c.seek-p.ensures.below k a b) in
     let here : P < T → remainder r p ≤ remainder_in r ws P = λ a. omega (arith, rest, c.seek-p.ensures.here a) in
     let lo = c.seek-p.ensures.range.0 in
@@ -51,19 +51,19 @@ returns c =
     let ws = c.args.words.now in
     let p = c.args.fingerprint in
     let m = many r (held_in r blocks ws) in
-    let q = c.quotient-of-c.ensures in
-    let rest = c.remainder-of-rem.ensures in
-    let S = c.start-of-start.result.0 in
-    let T = c.stop-of-stop.result.0 in
+    let q = c.quotient_of-c.ensures in
+    let rest = c.remainder_of-rem.ensures in
+    let S = c.start_of-start.result.0 in
+    let T = c.stop_of-stop.result.0 in
     let P = c.seek-p.result.0 in
-    let starts = c.start-of-start.ensures ∙ ap (start m) q in
-    let stops = c.stop-of-stop.ensures ∙ ap (λ x. start m x + m x) q ∙ ap (λ x. x + m (quotient r p)) (sym starts) in
+    let starts = c.start_of-start.ensures ∙ ap (start m) q in
+    let stops = c.stop_of-stop.ensures ∙ ap (λ x. start m x + m x) q ∙ ap (λ x. x + m (quotient r p)) (sym starts) in
     let below : (k : ℕ) → S ≤ k → k < P → remainder_in r ws k < remainder r p = λ k a b. omega (arith, rest, c.seek-p.ensures.below k a b) in
     let here : P < T → remainder r p ≤ remainder_in r ws P = λ a. omega (arith, rest, c.seek-p.ensures.here a) in
     let lo = c.seek-p.ensures.range.0 in
     let hi = c.seek-p.ensures.range.1 in
-    let vs = c.write-entry.new.words in
-    let put1 = subst (λ x. EntryPut r ws vs x P c.args.u.0 c.remainder-of-rem.result (eqb P T) c.both.result) q c.write-entry.ensures in
+    let vs = c.write_entry.new.words in
+    let put1 = subst (λ x. EntryPut r ws vs x P c.args.u.0 c.remainder_of-rem.result (eqb P T) c.both.result) q c.write_entry.ensures in
     let put2 = subst (λ x. EntryPut r ws vs (quotient r p) P c.args.u.0 x (eqb P T) c.both.result) rest put1 in
     let put3 = subst (λ x. EntryPut r ws vs (quotient r p) P c.args.u.0 (remainder r p) (eqb P T) x) c.both.ensures put2 in
     let shows = put_result r blocks ws c.requires.sound p S T P starts stops lo hi below here c.args.u.0 c.requires.free vs put3 in

@@ -13,23 +13,23 @@ returns c =
     let p = c.args.p.0 in
     let u = c.args.u.0 in
     let w0 = c.args.words.now in
-    let w1 = c.move-up.new.words in
-    let w2 = c.set-remainder.new.words in
-    let w3 = c.set-runend.new.words in
-    let w4 = c.mark-before.new.words in
-    let w5 = c.set-occupied.new.words in
-    let w6 = c.raise-offsets.new.words in
+    let w1 = c.move_up.new.words in
+    let w2 = c.set_remainder.new.words in
+    let w3 = c.set_runend.new.words in
+    let w4 = c.mark_before.new.words in
+    let w5 = c.set_occupied.new.words in
+    let w6 = c.raise_offsets.new.words in
     let l1 : length w1 ≡ blocks * (r + 3) = omega arith in
     let l2 : length w2 ≡ blocks * (r + 3) = omega arith in
     let l4 : length w4 ≡ blocks * (r + 3) = omega arith in
     let l5 : length w5 ≡ blocks * (r + 3) = omega arith in
     let home : p / 64 < blocks = omega arith in
     let block : q / 64 < blocks = omega arith in
-    let rem = c.set-remainder.ensures.inside (omega (arith, slot_inside r p blocks (omega arith))) in
+    let rem = c.set_remainder.ensures.inside (omega (arith, slot_inside r p blocks (omega arith))) in
     entry_put r w0 w1 w2 w3 w4 w5 w6 q p u c.args.rem c.args.last c.args.follows (omega arith) c.requires.few
-    (c.move-up.ensures.inside (omega arith) (within_all r w0 blocks u c.requires.sized (omega arith)))
+    (c.move_up.ensures.inside (omega arith) (within_all r w0 blocks u c.requires.sized (omega arith)))
     (subst (λ x. WroteRemainder r w1 w2 p x) (mod-eq_of_lt c.requires.small) rem)
-    (c.set-runend.ensures.inside (omega (arith, head_inside r (p / 64) blocks 1 home (omega arith))))
-    c.mark-before.ensures
-    (c.set-occupied.ensures.inside (omega (arith, head_inside r (q / 64) blocks 0 block (omega arith))))
-    (c.raise-offsets.ensures.inside (holds_all r w5 blocks (u / 64 + 1) l5 (omega arith)))
+    (c.set_runend.ensures.inside (omega (arith, head_inside r (p / 64) blocks 1 home (omega arith))))
+    c.mark_before.ensures
+    (c.set_occupied.ensures.inside (omega (arith, head_inside r (q / 64) blocks 0 block (omega arith))))
+    (c.raise_offsets.ensures.inside (holds_all r w5 blocks (u / 64 + 1) l5 (omega arith)))

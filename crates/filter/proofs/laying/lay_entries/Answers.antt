@@ -19,24 +19,24 @@ loop-i-init c =
       advance_none _ _ (λ k. e.remainders k ∙ (empty_law 0 r k).3),
     )
 
-pub overflow-cast-p : goal.overflow-cast-p
+pub overflow_cast-p : goal.overflow_cast-p
 unfolding quotient
-overflow-cast-p c =
+overflow_cast-p c =
     let r = c.args.width.bits in
     let ps = c.args.rising.now in
     omega (arith, All-get_or (λ p. quotient r p < 64 * c.args.blocks) ps c.loop-i.i 0 c.loop-i-test.true (quotients_below (64 * c.args.blocks) r ps c.requires.order c.requires.room))
 
-pub lay-entry-requires : goal.lay-entry-requires
+pub lay_entry-requires : goal.lay_entry-requires
 unfolding quotient
-lay-entry-requires c =
+lay_entry-requires c =
     let r = c.args.width.bits in
     let ps = c.args.rising.now in
     let room = slot_below (64 * c.args.blocks) r ps c.requires.order c.requires.room c.loop-i.i c.loop-i-test.true in
     record { sized = omega arith; within = omega arith; below = omega arith }
 
-pub overflow-add-next : goal.overflow-add-next
+pub overflow_add-next : goal.overflow_add-next
 unfolding quotient
-overflow-add-next c =
+overflow_add-next c =
     let r = c.args.width.bits in
     let ps = c.args.rising.now in
     let room = slot_below (64 * c.args.blocks) r ps c.requires.order c.requires.room c.loop-i.i c.loop-i-test.true in
@@ -50,7 +50,7 @@ loop-i-preserved c =
     let i = c.loop-i.i in
     let l = c.loop-i-test.true in
     let inv = c.loop-i.invariant in
-    let e = c.lay-entry.ensures in
+    let e = c.lay_entry.ensures in
     let s : c.max-s.result ≡ slot_of r ps i = omega arith in
     let n : c.loop-i.next ≡ next_of r ps i = inv.0 in
     let n1 : c.max-s.result + 1 ≡ suc (slot_of r ps i) = omega arith in
@@ -63,10 +63,10 @@ loop-i-preserved c =
     ∙ ap (λ m. cond (ltb k m) (full k) 0) (sym n1) in (
       omega (arith, after_more r ps i l),
       (λ k. e.occupied k ∙ ap (cond (eqb k (quotient r (get_or ps i 0))) 1) (inv.1 k) ∙ sym (occupied_more r ps i l k)),
-      row (runend_at r (laid r 0 ps)) (runend_in r c.loop-i.words) (runend_in r c.lay-entry.new.words) _ (sym c.ends-run.ensures)
+      row (runend_at r (laid r 0 ps)) (runend_in r c.loop-i.words) (runend_in r c.lay_entry.new.words) _ (sym c.ends_run.ensures)
           (λ k lo hi. at_gap r ps (λ p later. bit (others r (quotient r p) later)) 0 i k l lo hi) inv.2 e.runends,
       (λ k. e.offsets k ∙ inv.3 k),
-      row (remainder_at r (laid r 0 ps)) (remainder_in r c.loop-i.words) (remainder_in r c.lay-entry.new.words) _
+      row (remainder_at r (laid r 0 ps)) (remainder_in r c.loop-i.words) (remainder_in r c.lay_entry.new.words) _
           (at_slot r ps (λ p later. remainder r p) 0 i l)
           (λ k lo hi. at_gap r ps (λ p later. remainder r p) 0 i k l lo hi) inv.4 e.remainders,
     )

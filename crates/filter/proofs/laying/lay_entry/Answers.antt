@@ -7,9 +7,9 @@ use Rattle.blocks.specs.Writes.{WroteOccupied, WroteRunend, WroteRemainder}
 use Rattle.blocks.proofs.Parts.{head_inside, slot_inside}
 use Rattle.filter.proofs.laying.lay_entry.Goals as goal
 
-pub overflow-cast-c-2 : goal.overflow-cast-c-2
+pub overflow_cast-c-2 : goal.overflow_cast-c-2
 unfolding quotient
-overflow-cast-c-2 c = omega arith
+overflow_cast-c-2 c = omega arith
 
 pub returns : goal.returns
 unfolding quotient remainder
@@ -19,13 +19,13 @@ returns c =
     let s = c.args.s.0 in
     let q = quotient r c.args.p in
     let ws = c.args.words.now in
-    let len1 : length c.set-occupied.new.words ≡ n * (r + 3) = omega arith in
-    let len2 : length c.set-runend.new.words ≡ n * (r + 3) = omega arith in
+    let len1 : length c.set_occupied.new.words ≡ n * (r + 3) = omega arith in
+    let len2 : length c.set_runend.new.words ≡ n * (r + 3) = omega arith in
     let block : q / 64 < n = omega arith in
     let home : s / 64 < n = omega arith in
-    let one = c.set-occupied.ensures.inside (omega (arith, head_inside r (q / 64) n 0 block (omega arith))) in
-    let two = c.set-runend.ensures.inside (omega (arith, head_inside r (s / 64) n 1 home (omega arith))) in
-    let three = c.set-remainder.ensures.inside (omega (arith, slot_inside r s n c.requires.within)) in
+    let one = c.set_occupied.ensures.inside (omega (arith, head_inside r (q / 64) n 0 block (omega arith))) in
+    let two = c.set_runend.ensures.inside (omega (arith, head_inside r (s / 64) n 1 home (omega arith))) in
+    let three = c.set_remainder.ensures.inside (omega (arith, slot_inside r s n c.requires.within)) in
     let low = and_mask c.args.p 32 in
     let value = ap (λ x. x % 2 ^ r) low ∙ low_low c.args.p 32 r (omega arith) in
     record {

@@ -9,8 +9,8 @@ use Rattle.blocks.specs.Writes.{WroteOffset}
 use Rattle.blocks.proofs.Parts.{head_inside}
 use Rattle.filter.proofs.laying.lay_offsets.Goals as goal
 
-pub skip-below-requires : goal.skip-below-requires
-skip-below-requires c = record {
+pub skip_below-requires : goal.skip_below-requires
+skip_below-requires c = record {
   within = c.loop-b.invariant.0;
   order = c.requires.order;
   short = omega (arith, (room_after (64 * c.args.blocks) c.args.width.bits c.args.rising.now c.requires.order).0 c.requires.room);
@@ -23,20 +23,20 @@ loop-b-preserved c =
     let ps = c.args.rising.now in
     let b = c.loop-b.b in
     let inv = c.loop-b.invariant in
-    let i = c.skip-below.result.0 in
-    let skip = c.skip-below.ensures in
+    let i = c.skip_below.result.0 in
+    let skip = c.skip_below.ensures in
     let low : (k : ℕ) → k < i → quotient r (get_or ps k 0) < 64 * b =
     λ k l. ⊎_elim (λ (g : k < c.loop-b.i). inv.2 k g) (λ (g : c.loop-b.i ≤ k). skip.low k g l) (cases_lt k c.loop-b.i) in
-    let wrote = c.set-offset.ensures.inside (omega (arith, head_inside r b c.args.blocks 2 c.loop-b-test.true (omega arith))) in
+    let wrote = c.set_offset.ensures.inside (omega (arith, head_inside r b c.args.blocks 2 c.loop-b-test.true (omega arith))) in
     let full : ℕ → ℕ = λ k. offset_at r (laid r 0 ps) (64 * k) in
-    let here : full b ≡ c.saturating-sub.result = omega (arith, offset_cut r ps c.requires.order i (64 * b) skip.range.1 low skip.high, skip.slot) in
+    let here : full b ≡ c.saturating_sub.result = omega (arith, offset_cut r ps c.requires.order i (64 * b) skip.range.1 low skip.high, skip.slot) in
     let one : suc b ≡ b + 1 = omega arith in (
       skip.range.1,
       skip.slot,
       (λ k l. omega (arith, low k l)),
       (λ k. wrote.occupied k ∙ inv.3 k),
       (λ k. wrote.runends k ∙ inv.4 k),
-      (λ k. advance full (offset_in r c.loop-b.words) (offset_in r c.set-offset.new.words) b b c.saturating-sub.result (omega arith) here
+      (λ k. advance full (offset_in r c.loop-b.words) (offset_in r c.set_offset.new.words) b b c.saturating_sub.result (omega arith) here
           (λ j lo hi. absurd (omega arith)) inv.5 wrote.offsets k
           ∙ ap (λ m. cond (ltb k m) (full k) 0) one),
       (λ k. wrote.remainders k ∙ inv.6 k),

@@ -5,9 +5,9 @@ use Rattle.layout.proofs.Bridge.{after_more}
 use Rattle.layout.proofs.Passes.{next_of, next_below}
 use Rattle.filter.proofs.laying.skip_below.Goals as goal
 
-pub overflow-add-after : goal.overflow-add-after
+pub overflow_add-after : goal.overflow_add-after
 unfolding quotient
-overflow-add-after c =
+overflow_add-after c =
     let r = c.args.width.bits in
     let ps = c.args.rising.now in
     omega (arith, after_more r ps c.loop-at.at c.loop-at-test.true, next_below r ps (c.loop-at.at + 1))

@@ -7,22 +7,22 @@ use Rattle.filter.specs.Locating.{head_in}
 use Rattle.filter.proofs.Locatings.{head_is, start_bound, end_bound}
 use Rattle.filter.proofs.runs.after_runs.Goals as goal
 
-pub overflow-cast-head : goal.overflow-cast-head
-overflow-cast-head c =
+pub overflow_cast-head : goal.overflow_cast-head
+overflow_cast-head c =
     let r = c.args.width.bits in
     let ws = c.args.words.now in
     let b = c.args.c.0 / 64 in
     omega (arith, c.requires.sound.few, head_is r c.args.blocks ws c.requires.sound b, start_bound r c.args.blocks ws c.requires.sound (64 * b), c.offset.ensures)
 
-pub overflow-add-head : goal.overflow-add-head
-overflow-add-head c =
+pub overflow_add-head : goal.overflow_add-head
+overflow_add-head c =
     let r = c.args.width.bits in
     let ws = c.args.words.now in
     let b = c.args.c.0 / 64 in
     omega (arith, c.requires.sound.few, head_is r c.args.blocks ws c.requires.sound b, start_bound r c.args.blocks ws c.requires.sound (64 * b), c.offset.ensures)
 
-pub overflow-add-e : goal.overflow-add-e
-overflow-add-e c =
+pub overflow_add-e : goal.overflow_add-e
+overflow_add-e c =
     omega (arith, c.requires.sound.few, end_bound c.args.width.bits c.args.blocks c.args.words.now c.requires.sound c.in-Some.e.0 c.in-Some.ensures.one)
 
 pub returns-in-None : goal.returns-in-None

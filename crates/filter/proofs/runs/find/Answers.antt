@@ -15,7 +15,7 @@ returns-then-not-occupied c =
     let r = c.args.width.bits in
     let ws = c.args.words.now in
     not_occupied r c.args.blocks ws c.requires.sound c.args.fingerprint
-    (sym (c.if-not-occupied.ensures ∙ ap (λ x. eqb (occupied_bit_in r ws x) 1) c.quotient-of-c.ensures))
+    (sym (c.if-not-occupied.ensures ∙ ap (λ x. eqb (occupied_bit_in r ws x) 1) c.quotient_of-c.ensures))
 
 -- what the search in the run says of the fingerprint
 told : (r blocks : ℕ) (ws : List ℕ) (s : Sound r blocks ws) (p c v : ℕ) (o : Option Place) → c ≡ quotient r p → v ≡ remainder r p
@@ -34,5 +34,5 @@ told r blocks ws s p c v (Some x) ec ev (run, same) =
 
 pub returns : goal.returns
 returns c =
-    told c.args.width.bits c.args.blocks c.args.words.now c.requires.sound c.args.fingerprint c.quotient-of-c.result.0 c.remainder-of.result c.in_run.result
-    c.quotient-of-c.ensures c.remainder-of.ensures c.in_run.ensures
+    told c.args.width.bits c.args.blocks c.args.words.now c.requires.sound c.args.fingerprint c.quotient_of-c.result.0 c.remainder_of.result c.in_run.result
+    c.quotient_of-c.ensures c.remainder_of.ensures c.in_run.ensures

@@ -6,7 +6,7 @@ use Rattle.filter.proofs.runs.first_free.Goals as goal
 pub loop-x-preserved : goal.loop-x-preserved
 loop-x-preserved c =
     let x = c.loop-x.x in
-    let stop = c.stop-of-stop.ensures in (
+    let stop = c.stop_of-stop.ensures in (
       omega arith,
       λ y lo hi. ⊎_elim (λ (l : y < x). c.loop-x.invariant.1 y lo l)
           (λ (l : x ≤ y). used_upto c.args.width.bits c.args.blocks c.args.words.now c.requires.sound x y l (omega arith)) (cases_lt y x),

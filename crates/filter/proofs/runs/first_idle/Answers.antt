@@ -11,7 +11,7 @@ loop-x-preserved c =
     let r = c.args.width.bits in
     let ws = c.args.words.now in
     let x = c.loop-x.x in
-    let start = c.start-of-start.ensures in (
+    let start = c.start_of-start.ensures in (
       omega arith,
       omega (arith, start_bound r c.args.blocks ws c.requires.sound x),
       λ y lo hi. ⊎_elim (λ (l : y < x). c.loop-x.invariant.2 y lo l)

@@ -10,13 +10,13 @@ pub returns-else-at-to : goal.returns-else-at-to
 returns-else-at-to c =
     let r = c.args.width.bits in
     let ws = c.args.words.now in
-    let T = c.stop-of-to.result.0 in
+    let T = c.stop_of-to.result.0 in
     let P = c.seek-at.result.0 in
-    let starts = c.start-of-from.ensures in
+    let starts = c.start_of-from.ensures in
     let why : (T ≤ P) ⊎ (remainder_in r ws P ≢ c.args.rem) =
     elim c.else-at-to.branch [
       | else-at-to-via-then-at-to+else-remainder-rem w ↦ inr (λ e. w.if-remainder-rem.false (w.remainder.ensures ∙ e))
       | else-at-to-via-else-at-to w ↦ inl w.if-at-to.false
     ] in
-    absent r c.args.blocks ws c.requires.sound c.args.c.0 c.start-of-from.result.0 T P c.args.rem starts
-    (c.stop-of-to.ensures ∙ ap (λ x. x + many r (held_in r c.args.blocks ws) c.args.c.0) (sym starts)) c.seek-at.ensures.range.0 c.seek-at.ensures.below c.seek-at.ensures.here why
+    absent r c.args.blocks ws c.requires.sound c.args.c.0 c.start_of-from.result.0 T P c.args.rem starts
+    (c.stop_of-to.ensures ∙ ap (λ x. x + many r (held_in r c.args.blocks ws) c.args.c.0) (sym starts)) c.seek-at.ensures.range.0 c.seek-at.ensures.below c.seek-at.ensures.here why

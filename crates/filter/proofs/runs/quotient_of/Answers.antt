@@ -2,9 +2,9 @@ use Rattle.std.proofs.Common.{arith, rules}
 use Rattle.layout.specs.Rule.{quotient}
 use Rattle.filter.proofs.runs.quotient_of.Goals as goal
 
-pub overflow-cast-result-2 : goal.overflow-cast-result-2
+pub overflow_cast-result-2 : goal.overflow_cast-result-2
 unfolding quotient
-overflow-cast-result-2 c = omega arith
+overflow_cast-result-2 c = omega arith
 
 pub returns : goal.returns
 unfolding quotient

@@ -4,8 +4,8 @@ use Rattle.filter.specs.Meaning.{held_in}
 use Rattle.filter.proofs.Slotting.{not_first}
 use Rattle.filter.proofs.slots.home_block.Goals as goal
 
-pub overflow-sub-a : goal.overflow-sub-a
-overflow-sub-a c =
+pub overflow_sub-a : goal.overflow_sub-a
+overflow_sub-a c =
     let r = c.args.width.bits in
     not_first (many r (held_in r c.args.blocks c.args.words.now)) c.args.s.0 c.loop-width.a (omega arith)
 

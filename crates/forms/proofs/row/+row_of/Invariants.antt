@@ -1,5 +1,5 @@
 use Rattle.std.proofs.Common.{length}
 use Rattle.forms.proofs.row.+row_of.Given as goal
 
-abbrev pub decreases-row-of : goal.decreases-row-of
-decreases-row-of l = length l.bytes.now
+abbrev pub decreases-row_of : goal.decreases-row_of
+decreases-row_of l = length l.bytes.now

@@ -11,7 +11,7 @@ loop-pair-preserved c =
     let i = c.loop-pair.pair-index in
     let none : Pair = record { left = 0; right = 0 } in
     let one = c.cut.ensures ∙ ap (λ x. x % 2 ^ (plan.q + plan.r)) c.fingerprint.ensures in
-    c.in-ok-push.ensures.items ∙ ap₂ (λ xs y. xs ++ (y ∷ [])) c.loop-pair.invariant one
+    c.in_ok-push.ensures.items ∙ ap₂ (λ xs y. xs ++ (y ∷ [])) c.loop-pair.invariant one
     ∙ sym (ap (map (cut_print plan)) (take_more pairs i none (omega arith)) ∙ map-append (cut_print plan) (take i pairs) (get_or pairs i none ∷ []))
 
 pub returns : goal.returns

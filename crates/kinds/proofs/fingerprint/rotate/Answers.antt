@@ -3,4 +3,4 @@ use Rattle.kinds.proofs.Turns.{turned}
 use Rattle.kinds.proofs.fingerprint.rotate.Goals as goal
 
 pub returns : goal.returns
-returns c = c.rotate-left.ensures ∙ turned c.args.x (omega arith)
+returns c = c.rotate_left.ensures ∙ turned c.args.x (omega arith)

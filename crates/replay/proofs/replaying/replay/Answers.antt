@@ -14,11 +14,11 @@ use Rattle.book.proofs.Holding.{frame_then, frame_self}
 use Rattle.replay.proofs.Turns.{step, holds_on, rule_on, words_current, opened_holds, back_holds, back_lawful}
 use Rattle.replay.proofs.replaying.replay.Goals as goal
 
-pub returns-in-err-open : goal.returns-in-err-open
-returns-in-err-open g c =
-    let r = c.in-err-open.ensures in
-    let p = err_from_is_err_and c.from-residual-in-err-open.result c.from-residual-in-err-open.ensures.1 in
-    let is : c.from-residual-in-err-open.result ≡ Err (Opening c.in-err-open.field-0.0) = p.1 ∙ ap Err p.2 in
+pub returns-in_err-open : goal.returns-in_err-open
+returns-in_err-open g c =
+    let r = c.in_err-open.ensures in
+    let p = err_from_is_err_and c.from_residual-in_err-open.result c.from_residual-in_err-open.ensures.1 in
+    let is : c.from_residual-in_err-open.result ≡ Err (Opening c.in_err-open.field-0.0) = p.1 ∙ ap Err p.2 in
     record {
       sound = c.requires;
       frame = frame_self (g.X.Table.meaning c.args.table.now);
@@ -35,7 +35,7 @@ loop-operation-init g c =
     let m = g.X.Table.meaning c.args.table.now in
     let f = c.args.filter.now in
     let e = c.open.new.filter in
-    let t = c.in-ok-open.ensures in (
+    let t = c.in_ok-open.ensures in (
       c.requires,
       opened_holds g.K.Kind.bytes g.met.K.Kind.apart number f e t.filter m t.done.1,
       frame_self m,
@@ -43,8 +43,8 @@ loop-operation-init g c =
       search rules,
       search rules,
       search rules,
-      follows_paired (value_in g.K.Kind.bytes m) (vec_items c.in-ok-answers.answers),
-      lawful_paired (terms_of g.K.Kind.bytes number e m) (value_in g.K.Kind.bytes m) (vec_items c.in-ok-answers.answers),
+      follows_paired (value_in g.K.Kind.bytes m) (vec_items c.in_ok-answers.answers),
+      lawful_paired (terms_of g.K.Kind.bytes number e m) (value_in g.K.Kind.bytes m) (vec_items c.in_ok-answers.answers),
       refl,
     )
 
@@ -70,13 +70,13 @@ loop-operation-preserved g c =
     let ops = c.args.operations.now in
     let before = vec_items c.loop-operation.answers in
     let history = paired (take i ops) before in
-    let one = one_more ops i o before (vec_items c.push-reserved.new.self) a c.loop-operation-test.true c.operation-item.is inv.5 c.push-reserved.ensures.items in (
+    let one = one_more ops i o before (vec_items c.push_reserved.new.self) a c.loop-operation-test.true c.operation-item.is inv.5 c.push_reserved.ensures.items in (
       r.sound,
       holds_on bytes apart number e m h h' x x' own own' inv.1 o a r.filter r.answer r.done,
       frame_then m x x' inv.2 r.frame,
       r.lender ∙ inv.3,
       search rules,
-      simp (c.push-reserved.ensures.items, length-append) (omega arith),
+      simp (c.push_reserved.ensures.items, length-append) (omega arith),
       search rules,
       subst (λ (l : History _ _). Follows (value_in bytes m) l (value_in bytes x')) (sym one)
           (follows_push (value_in bytes m) history (o, a) (value_in bytes x) (value_in bytes x') inv.7 (step bytes apart number h h' x x' o a r.done)),
@@ -99,7 +99,7 @@ returns g c =
     let ops = c.args.operations.now in
     let answers = vec_items c.loop-operation.answers in
     let inv = c.loop-operation.invariant in
-    let t = c.in-ok-open.ensures in
+    let t = c.in_ok-open.ensures in
     let all : take c.loop-operation.operation-index ops ≡ ops = take_all _ _ c.loop-operation-test.false in
     let whole : paired (take c.loop-operation.operation-index ops) answers ≡ paired ops answers = ap (λ l. paired l answers) all in
     let holds = back_holds bytes apart number f e t.filter c.loop-operation.filter m n t.done.1 t.done.2 inv.1 in

@@ -26,4 +26,4 @@ pub returns : goal.returns
 returns c =
     let f = c.args.self.now in
     let p = c.args.fingerprint in
-    (ltb-true p _ (sym c.if-not-admits.ensures), c.is-some.ensures ∙ told f p c.place-of.result c.place-of.ensures)
+    (ltb-true p _ (sym c.if-not-admits.ensures), c.is_some.ensures ∙ told f p c.place_of.result c.place_of.ensures)

@@ -26,8 +26,8 @@ selects f c (Some e) (some, is) =
       subst (λ x. Select (runend_at r (laid r 0 x)) (rank (occupied_at r es) c) e.0) (sym f.rising) (subst (Select (runend_at r (laid r 0 es)) (rank (occupied_at r es) c)) (sym is) rows),
     )
 
-pub end-in-requires : goal.end-in-requires
-end-in-requires c = let f = c.args.self.now in record { room = room_of f; sound = own_of f }
+pub end_in-requires : goal.end_in-requires
+end_in-requires c = let f = c.args.self.now in record { room = room_of f; sound = own_of f }
 
 pub returns : goal.returns
-returns c = selects c.args.self.now c.args.c.0 c.end-in.result c.end-in.ensures
+returns c = selects c.args.self.now c.args.c.0 c.end_in.result c.end_in.ensures

@@ -7,8 +7,8 @@ use Rattle.filter.proofs.Edited.{one_there}
 use Rattle.filter.proofs.Promises.{own_of, room_of, less_facts, taken}
 use Rattle.filter.proofs.filter.Filter.take.Goals as goal
 
-pub take-out-requires : goal.take-out-requires
-take-out-requires c =
+pub take_out-requires : goal.take_out-requires
+take_out-requires c =
     let f = c.args.self.now in
     let p = c.args.fingerprint in
     let run = c.in-Some.ensures.0 in
@@ -16,15 +16,15 @@ take-out-requires c =
     let there = one_there f.plan.r f.blocks (take (size_of f.plan.r f.blocks) f.words.now) (own_of f) p (place.at.0 - place.from.0) (omega (arith, run.stops, run.low, run.high)) c.in-Some.ensures.1 in
     record { room = room_of f; sound = own_of f; run = run; found = c.in-Some.ensures.1; some = omega (arith, f.counted, length_remove p (fingerprints f) there) }
 
-pub invariant-of-self : goal.invariant-of-self
-invariant-of-self c =
+pub invariant_of-self : goal.invariant_of-self
+invariant_of-self c =
     let f = c.args.self.now in
     let p = c.args.fingerprint in
     let run = c.in-Some.ensures.0 in
     let place = c.in-Some.place in
     let there = one_there f.plan.r f.blocks (take (size_of f.plan.r f.blocks) f.words.now) (own_of f) p (place.at.0 - place.from.0) (omega (arith, run.stops, run.low, run.high)) c.in-Some.ensures.1 in
-    let len : length f.words.now ≡ length c.take-out.new.words = omega arith in
-    less_facts f p c.take-out.new.held c.take-out.new.words there len c.take-out.ensures.held c.take-out.ensures.words
+    let len : length f.words.now ≡ length c.take_out.new.words = omega arith in
+    less_facts f p c.take_out.new.held c.take_out.new.words there len c.take_out.ensures.held c.take_out.ensures.words
 
 pub returns : goal.returns
 returns c =
@@ -37,5 +37,5 @@ returns c =
       plan = refl;
       blocks = refl;
       name = refl;
-      done = (ltb-true p _ (sym c.if-not-admits.ensures), there, taken f p c.take-out.new.words c.take-out.ensures.words, c.take-out.ensures.words);
+      done = (ltb-true p _ (sym c.if-not-admits.ensures), there, taken f p c.take_out.new.words c.take_out.ensures.words, c.take_out.ensures.words);
     }

@@ -14,8 +14,8 @@ alone f ws is g ep eb =
       (λ same. ap₂ (λ x b. held_in x b (take (size_of g.plan.r g.blocks) (words_of g))) r eb ∙ ap (held_in f.plan.r f.blocks) (same ∙ is)),
     )
 
-pub blocks-in-requires : goal.blocks-in-requires
-blocks-in-requires c = record { room = room_of c.args.self.now }
+pub blocks_in-requires : goal.blocks_in-requires
+blocks_in-requires c = record { room = room_of c.args.self.now }
 
 pub returns : goal.returns
-returns c = record { alone = alone c.args.self.now _ c.blocks-in.ensures; layout = c.blocks-in.ensures ∙ c.args.self.now.laid }
+returns c = record { alone = alone c.args.self.now _ c.blocks_in.ensures; layout = c.blocks_in.ensures ∙ c.args.self.now.laid }

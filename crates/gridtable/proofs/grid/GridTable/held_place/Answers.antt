@@ -3,18 +3,18 @@ use Rattle.gridtable.specs.Grids.{HeldPlace}
 use Rattle.gridtable.proofs.Squares.{found_below, found_value, missed_value, no_value}
 use Rattle.gridtable.proofs.grid.GridTable.held_place.Goals as goal
 
-pub returns-in-err-place : goal.returns-in-err-place
-returns-in-err-place c =
+pub returns-in_err-place : goal.returns-in_err-place
+returns-in_err-place c =
     let table = c.args.self.now in
-    subst (λ o. HeldPlace table.side table.cells.now c.args.pair o) (sym c.from-residual.ensures) (missed_value table.side table.cells.now c.args.pair c.in-err-place.ensures)
+    subst (λ o. HeldPlace table.side table.cells.now c.args.pair o) (sym c.from_residual.ensures) (missed_value table.side table.cells.now c.args.pair c.in_err-place.ensures)
 
-pub value-at-requires : goal.value-at-requires
-value-at-requires c =
+pub value_at-requires : goal.value_at-requires
+value_at-requires c =
     let table = c.args.self.now in
-    found_below table.side table.cells.now c.args.pair c.in-ok-place.place table.room c.in-ok-place.ensures
+    found_below table.side table.cells.now c.args.pair c.in_ok-place.place table.room c.in_ok-place.ensures
 
-pub returns-else-is-some : goal.returns-else-is-some
-returns-else-is-some c =
+pub returns-else-is_some : goal.returns-else-is_some
+returns-else-is_some c =
     let table = c.args.self.now in
-    sym (found_value table.side table.cells.now c.args.pair c.in-ok-place.place c.value-at.result c.in-ok-place.ensures c.value-at.ensures)
-    ∙ no_value c.value-at.result (sym c.if-is-some.ensures)
+    sym (found_value table.side table.cells.now c.args.pair c.in_ok-place.place c.value_at.result c.in_ok-place.ensures c.value_at.ensures)
+    ∙ no_value c.value_at.result (sym c.if-is_some.ensures)

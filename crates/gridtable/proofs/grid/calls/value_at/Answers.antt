@@ -8,4 +8,4 @@ pub returns : goal.returns
 returns c =
     let cells = c.args.cells.now in
     let f : SFits w32 (get_or cells c.args.place (pos 0)) = search rules in
-    c.value-of.ensures ∙ ap value_of (to_z-of_z w32 (get_or cells c.args.place (pos 0)) f ∙ get_or_default cells c.args.place (pos 0) free_cell c.requires)
+    c.value_of.ensures ∙ ap value_of (to_z-of_z w32 (get_or cells c.args.place (pos 0)) f ∙ get_or_default cells c.args.place (pos 0) free_cell c.requires)

@@ -4,8 +4,8 @@ use Rattle.listtable.proofs.Places.{none_held}
 use Rattle.listtable.proofs.Lists.{apart_none}
 use Rattle.listtable.proofs.list.ListTable.begin.Goals as goal
 
-pub invariant-of-result : goal.invariant-of-result
-invariant-of-result g c = (omega arith, (apart_none c.args.records.now, tt))
+pub invariant_of-result : goal.invariant_of-result
+invariant_of-result g c = (omega arith, (apart_none c.args.records.now, tt))
 
 pub returns : goal.returns
 returns g c =

@@ -9,8 +9,8 @@ returns-then-place-capacity c =
     let e = c.capacity.ensures in
     sym (row_past c.args.self.now.side c.args.self.now.cells.now c.args.place (omega arith))
 
-pub overflow-cast-key : goal.overflow-cast-key
-overflow-cast-key c =
+pub overflow_cast-key : goal.overflow_cast-key
+overflow_cast-key c =
     let e = c.capacity.ensures in
     let h = row_column c.args.self.now.side c.args.place c.args.self.now.small (omega arith) in
     search rules

@@ -10,8 +10,8 @@ free-requires c =
       some = some_held table.side table.cells.now table.room c.args.key c.in-Some.place c.in-Some.ensures table.held table.counted;
     }
 
-pub invariant-of-self : goal.invariant-of-self
-invariant-of-self c =
+pub invariant_of-self : goal.invariant_of-self
+invariant_of-self c =
     let table = c.args.self.now in
     let t = taken table.side table.cells.now table.room c.args.key c.in-Some.place c.in-Some.ensures table.held c.free.new.held c.free.new.cells table.counted c.free.ensures.cells c.free.ensures.held in
     (table.small, (t.room, (t.counted, tt)))

@@ -13,8 +13,8 @@ write-requires c =
       few = held_few table.side table.cells.now table.held table.small table.counted;
     }
 
-pub invariant-of-self : goal.invariant-of-self
-invariant-of-self c =
+pub invariant_of-self : goal.invariant_of-self
+invariant_of-self c =
     let table = c.args.self.now in
     let cells = table.cells.now in
     let at = chosen (in_square table.side c.args.key) (place_of table.side c.args.key) c.in-Some.place c.in-Some.ensures in

@@ -5,7 +5,7 @@ use Rattle.listtable.proofs.list.calls.ListTableTable.peek.Goals as goal
 pub returns-then-place-self : goal.returns-then-place-self
 returns-then-place-self g c =
     let table = c.args.self.now in
-    sym (at_read table.held table.records.now c.args.place c.record-at.result table.within c.if-place-self.true c.record-at.ensures)
+    sym (at_read table.held table.records.now c.args.place c.record_at.result table.within c.if-place-self.true c.record_at.ensures)
 
 pub returns-else-place-self : goal.returns-else-place-self
 returns-else-place-self g c =

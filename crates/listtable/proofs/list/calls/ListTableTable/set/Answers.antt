@@ -5,8 +5,8 @@ use Rattle.listtable.specs.Propers.{count_places}
 use Rattle.listtable.proofs.Lists.{overwritten, appended, full, is_held}
 use Rattle.listtable.proofs.list.calls.ListTableTable.set.Goals as goal
 
-pub invariant-of-self : goal.invariant-of-self
-invariant-of-self g c =
+pub invariant_of-self : goal.invariant_of-self
+invariant_of-self g c =
     let table = c.args.self.now in
     let t = overwritten g.K.Kind.bytes g.met.K.Kind.apart table.held table.records.now table.within table.once c.in-Some.place c.args.key c.args.value c.write.new.records c.in-Some.ensures c.write.ensures in
     (t.within, (t.once, tt))
@@ -33,20 +33,20 @@ returns-then-self-capacity g c =
       frame = same_frame (list_meaning table.held table.records.now);
       lender = refl;
       beyond = refl;
-      done = full g.K.Kind.bytes g.met.K.Kind.apart table.held table.records.now table.within c.args.key c.args.value c.in-default.ensures (c.if-self-capacity.true ∙ c.capacity.ensures);
+      done = full g.K.Kind.bytes g.met.K.Kind.apart table.held table.records.now table.within c.args.key c.args.value c.in_default.ensures (c.if-self-capacity.true ∙ c.capacity.ensures);
       undone = λ e. refl;
     }
 
-pub invariant-of-self-2 : goal.invariant-of-self-2
-invariant-of-self-2 g c =
+pub invariant_of-self-2 : goal.invariant_of-self-2
+invariant_of-self-2 g c =
     let table = c.args.self.now in
-    let t = appended g.K.Kind.bytes g.met.K.Kind.apart table.held table.records.now table.within table.once c.args.key c.args.value c.append.new.held c.append.new.records c.in-default.ensures (omega arith) c.append.ensures.held c.append.ensures.records in
+    let t = appended g.K.Kind.bytes g.met.K.Kind.apart table.held table.records.now table.within table.once c.args.key c.args.value c.append.new.held c.append.new.records c.in_default.ensures (omega arith) c.append.ensures.held c.append.ensures.records in
     (t.within, (t.once, tt))
 
 pub returns : goal.returns
 returns g c =
     let table = c.args.self.now in
-    let t = appended g.K.Kind.bytes g.met.K.Kind.apart table.held table.records.now table.within table.once c.args.key c.args.value c.append.new.held c.append.new.records c.in-default.ensures (omega arith) c.append.ensures.held c.append.ensures.records in
+    let t = appended g.K.Kind.bytes g.met.K.Kind.apart table.held table.records.now table.within table.once c.args.key c.args.value c.append.new.held c.append.new.records c.in_default.ensures (omega arith) c.append.ensures.held c.append.ensures.records in
     record {
       sound = tt;
       frame = t.frame;
