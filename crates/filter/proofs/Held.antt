@@ -90,52 +90,40 @@ pub narrow_sorted : (bound : ℕ) (ps : List ℕ) → ((k : ℕ) → k < length 
 narrow_sorted bound ps h k l =
     All-get_or (λ p. p < bound) (sorted ps) k 0 l (all_sorted (λ p. p < bound) ps (All-from_get_or (λ p. p < bound) ps 0 h))
 
--- the facts of the filter's type, in its order
-abbrev pub Facts : ℕ → ℕ → ℕ → ℕ → List ℕ → Type 0
-Facts q r blocks held ws =
-    (blocks ≡ block_count r (length ws))
-    × ((take (size_of r blocks) ws ≡ filter_words r blocks (entries_of r blocks ws))
-    × ((sorted (entries_of r blocks ws) ≡ entries_of r blocks ws)
-    × (Roomy (64 * blocks) r (entries_of r blocks ws)
-    × (((k : ℕ) → k < length (entries_of r blocks ws) → get_or (entries_of r blocks ws) k 0 < 2 ^ (q + r))
-    × ((held ≡ length (entries_of r blocks ws))
-    × Unit {0})))))
+-- the facts of the filter's type
+pub record Facts (q r blocks held : ℕ) (ws : List ℕ) : Type 0 where
+  pub sized : blocks ≡ block_count r (length ws)
+  pub laid : take (size_of r blocks) ws ≡ filter_words r blocks (entries_of r blocks ws)
+  pub rising : sorted (entries_of r blocks ws) ≡ entries_of r blocks ws
+  pub roomy : Roomy (64 * blocks) r (entries_of r blocks ws)
+  pub narrow : (k : ℕ) → k < length (entries_of r blocks ws) → get_or (entries_of r blocks ws) k 0 < 2 ^ (q + r)
+  pub counted : held ≡ length (entries_of r blocks ws)
 
 pub facts : (q r blocks held : ℕ) (ps tail ws : List ℕ) → 0 < r → blocks ≡ block_count r (length ws)
     → sorted ps ≡ ps → Roomy (64 * blocks) r ps → ((k : ℕ) → k < length ps → get_or ps k 0 < 2 ^ (q + r)) → held ≡ length ps
     → ws ≡ filter_words r blocks ps ++ tail → Facts q r blocks held ws
 facts q r blocks held ps tail ws pos sized order room narrow count is =
     let few : blocks ≤ 16640 = omega arith in
-    let e : entries_of r blocks ws ≡ ps = entries_are r blocks pos few ps tail ws order room is in (
-      sized,
-      (
-        own_is r blocks pos few ps tail ws order room is ∙ ap (filter_words r blocks) (sym e),
-        (
-          subst (λ x. sorted x ≡ x) (sym e) order,
-          (
-            subst (Roomy (64 * blocks) r) (sym e) room,
-            (
-              subst (λ x. (k : ℕ) → k < length x → get_or x k 0 < 2 ^ (q + r)) (sym e) narrow,
-              (
-                count ∙ ap length (sym e),
-                tt,
-              ),
-            ),
-          ),
-        ),
-      ),
-    )
+    let e : entries_of r blocks ws ≡ ps = entries_are r blocks pos few ps tail ws order room is in
+    record {
+      sized = sized;
+      laid = own_is r blocks pos few ps tail ws order room is ∙ ap (filter_words r blocks) (sym e);
+      rising = subst (λ x. sorted x ≡ x) (sym e) order;
+      roomy = subst (Roomy (64 * blocks) r) (sym e) room;
+      narrow = subst (λ x. (k : ℕ) → k < length x → get_or x k 0 < 2 ^ (q + r)) (sym e) narrow;
+      counted = count ∙ ap length (sym e);
+    }
 
 -- the words of the blocks of a filter are sound
 pub own_sound : (q r blocks held : ℕ) (ws : List ℕ) → 0 < r → Facts q r blocks held ws → Sound r blocks (take (size_of r blocks) ws)
-own_sound q r blocks held ws pos (sized, (laid, (rising, (roomy, rest)))) =
-    let few : blocks ≤ 16640 = omega arith in
-    let room : size_of r blocks ≤ length ws = subst (λ b. size_of r b ≤ length ws) (sym sized) (size_room r (length ws)) in
+own_sound q r blocks held ws pos h =
+    let few : blocks ≤ 16640 = omega (arith, h.sized) in
+    let room : size_of r blocks ≤ length ws = subst (λ b. size_of r b ≤ length ws) (sym h.sized) (size_room r (length ws)) in
     record {
       few = few;
       sized = length-take (size_of r blocks) ws ∙ omega arith;
-      rising = sorted_is (entries_of r blocks ws) rising;
-      roomy = roomy;
-      shows = subst (Shows r (take (size_of r blocks) ws)) rising
-          (views_from_words r (entries_of r blocks ws) pos blocks (subst (Roomy (64 * blocks) r) (sym rising) roomy) (omega arith) (take (size_of r blocks) ws) laid);
+      rising = sorted_is (entries_of r blocks ws) h.rising;
+      roomy = h.roomy;
+      shows = subst (Shows r (take (size_of r blocks) ws)) h.rising
+          (views_from_words r (entries_of r blocks ws) pos blocks (subst (Roomy (64 * blocks) r) (sym h.rising) h.roomy) (omega arith) (take (size_of r blocks) ws) h.laid);
     }

@@ -68,7 +68,7 @@ laid_promise f g held list left (Err e) ep eb el narrow (why, full, count, is) =
 -- ---- a filter's own facts
 
 pub facts_of : (f : Filter) → Facts f.plan.q f.plan.r f.blocks f.held (words_of f)
-facts_of f = (f.sized, (f.laid, (f.rising, (f.roomy, (f.narrow, (f.counted, tt))))))
+facts_of f = record { sized = f.sized; laid = f.laid; rising = f.rising; roomy = f.roomy; narrow = f.narrow; counted = f.counted }
 
 pub own_of : (f : Filter) → Sound f.plan.r f.blocks (take (size_of f.plan.r f.blocks) (words_of f))
 own_of f = own_sound f.plan.q f.plan.r f.blocks f.held (words_of f) f.plan.some (facts_of f)

@@ -21,7 +21,8 @@ invariant_of-self c =
     let f = c.args.self.now in
     let p = c.args.fingerprint in
     let len : length f.words.now ≡ length c.put_in.new.words = omega arith in
-    more_facts f p c.in-Some.u.0 c.put_in.new.held c.put_in.new.words (ltb-true p _ (sym c.if-not-admits.ensures)) c.in-Some.ensures.0 c.in-Some.ensures.1 len c.put_in.ensures.held c.put_in.ensures.words
+    let all = more_facts f p c.in-Some.u.0 c.put_in.new.held c.put_in.new.words (ltb-true p _ (sym c.if-not-admits.ensures)) c.in-Some.ensures.0 c.in-Some.ensures.1 len c.put_in.ensures.held c.put_in.ensures.words in
+    record { sized = all.sized; laid = all.laid; rising = all.rising; roomy = all.roomy; narrow = all.narrow; counted = all.counted }
 
 pub returns : goal.returns
 returns c =

@@ -26,7 +26,8 @@ invariant_of-result c =
     let words = c.clear_blocks.ensures ∙ ap (λ x. cleared_over x b old) c.width.ensures in
     let is = words ∙ ap (λ x. x ++ drop (size_of r b) old) (zeros_are r b (omega arith) (omega arith)) in
     let len : length old ≡ length c.clear_blocks.new.words = omega arith in
-    facts c.args.plan.q r b 0 [] (drop (size_of r b) old) c.clear_blocks.new.words (omega arith) (c.blocks_of-blocks.ensures ∙ ap (block_count r) len) refl (empty_law (64 * b) r 0).0 (λ k l. absurd (omega arith)) refl is
+    let all = facts c.args.plan.q r b 0 [] (drop (size_of r b) old) c.clear_blocks.new.words (omega arith) (c.blocks_of-blocks.ensures ∙ ap (block_count r) len) refl (empty_law (64 * b) r 0).0 (λ k l. absurd (omega arith)) refl is in
+    record { sized = all.sized; laid = all.laid; rising = all.rising; roomy = all.roomy; narrow = all.narrow; counted = all.counted }
 
 pub returns : goal.returns
 unfolding sorted

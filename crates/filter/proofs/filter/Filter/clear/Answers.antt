@@ -10,8 +10,8 @@ pub invariant_of-self : goal.invariant_of-self
 invariant_of-self c =
     let f = c.args.self.now in
     let len : length f.words.now ≡ length c.empty_out.new.words = omega arith in
-    let none = none_facts f c.empty_out.new.words len c.empty_out.ensures.words in
-    (none.0, (none.1.0, (none.1.1.0, (none.1.1.1.0, (none.1.1.1.1.0, (c.empty_out.ensures.held ∙ none.1.1.1.1.1.0, tt))))))
+    let all = none_facts f c.empty_out.new.words len c.empty_out.ensures.words in
+    record { sized = all.sized; laid = all.laid; rising = all.rising; roomy = all.roomy; narrow = all.narrow; counted = c.empty_out.ensures.held ∙ all.counted }
 
 pub returns : goal.returns
 returns c =

@@ -24,7 +24,8 @@ invariant_of-self c =
     let place = c.in-Some.place in
     let there = one_there f.plan.r f.blocks (take (size_of f.plan.r f.blocks) f.words.now) (own_of f) p (place.at.0 - place.from.0) (omega (arith, run.stops, run.low, run.high)) c.in-Some.ensures.1 in
     let len : length f.words.now ≡ length c.take_out.new.words = omega arith in
-    less_facts f p c.take_out.new.held c.take_out.new.words there len c.take_out.ensures.held c.take_out.ensures.words
+    let all = less_facts f p c.take_out.new.held c.take_out.new.words there len c.take_out.ensures.held c.take_out.ensures.words in
+    record { sized = all.sized; laid = all.laid; rising = all.rising; roomy = all.roomy; narrow = all.narrow; counted = all.counted }
 
 pub returns : goal.returns
 returns c =
