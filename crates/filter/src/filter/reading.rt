@@ -71,7 +71,8 @@ fn blocks_in(words: &[u64], width: Width, blocks: u32) -> &[u64]
     requires room { size_of width.bits blocks ≤ length words.now }
     ensures { result.now ≡ take (size_of width.bits blocks) words.now }
 {
-    &words[0..blocks as usize * (width.bits as usize + 3)]
+    let end = blocks as usize * (width.bits as usize + 3);
+    &words[0..end]
 }
 
 impl Filter<'_> {
