@@ -8,7 +8,7 @@ pub fn distinct(mut pairs: Vec<Pair>) -> Vec<Pair>
     ensures climbing { Climbing result.items }
     ensures same { SamePairs pairs.items result.items }
 {
-    pairs.sort();
+    pairs.sort_unstable();
     pairs.dedup();
     pairs
 }
