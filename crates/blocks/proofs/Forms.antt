@@ -1,16 +1,15 @@
 -- The words of a layout, word by word, and what they show are the same thing.
-use Rattle.std.proofs.Common.{◌≡◌, ℕ, zero, suc, ◌+◌, ◌-◌, ◌*◌, ◌/◌, ◌%◌, ◌^◌, ◌<◌, ◌≤◌, Bool, true, false, cond, eqb, ltb, leb, ◌≢◌, ◌⊎◌, List, [], ◌∷◌, length, get_or, sym, refl, ap, ◌∙◌, ap₂, inl, inr, ⊎_elim, mul-le-mul_right, mod-lt, div-add-mod', arith, pow_pos, pow_mono}
-use native.Mathlib.Nat.{zero-div, zero-mod}
+use Rattle.std.proofs.Common.{◌≡◌, ℕ, ◌+◌, ◌-◌, ◌*◌, ◌/◌, ◌%◌, ◌^◌, ◌<◌, ◌≤◌, Bool, true, false, cond, eqb, ◌≢◌, List, [], ◌∷◌, length, get_or, sym, refl, ap, ◌∙◌, ap₂, ⊎_elim, mul-le-mul_right, mod-lt, div-add-mod', arith, pow_pos}
+use native.Mathlib.Nat.{zero-div}
 use lib.Arith.{digits_div, digits_mod}
-use Rattle.std.specs.List.{range_with_len}
 use Rattle.std.proofs.lemmas.List.FromFn.{fill_by_all, length-map-range_with_len, get_or-map-range_with_len}
 use Rattle.std.proofs.lemmas.List.{get_or_past}
-use Rattle.std.proofs.lemmas.Bool.{cases_lt, cases_eq, cond-true, cond-false, eq-eqb, ne_eqb}
-use Rattle.words.specs.Bits.{bits, bit_at, field}
+use Rattle.std.proofs.lemmas.Bool.{cases_lt, cases_eq, cond-false, ne_eqb}
+use Rattle.words.specs.Bits.{bits, bit_at}
 use Rattle.words.specs.Row.{row_of}
 use Rattle.words.proofs.Fields.{bits_lt, bits_at, bits_one, bit_lt, field_lt, bit_field}
 use Rattle.words.proofs.Rows.{Words, bit_row}
-use Rattle.layout.specs.Rule.{bit, quotient, remainder, sorted, Entry, laid, layout, at, others, occupied_at, runend_at, offset_at, remainder_at, Roomy, Sorted, many}
+use Rattle.layout.specs.Rule.{bit, quotient, remainder, sorted, Entry, layout, at, others, occupied_at, runend_at, offset_at, remainder_at, Roomy}
 use Rattle.layout.specs.Format.{row_bit, block_word, filter_words}
 use Rattle.layout.specs.Laws.{Within}
 use Rattle.layout.proofs.Inserts.{sorted_sorted}

@@ -4,7 +4,7 @@ use Rattle.std.proofs.lemmas.Bool.{cond-true, cond-false, eq-eqb, ne_eqb, cases_
 use Rattle.std.proofs.lemmas.Bool.Decides.{nat_tests}
 use Rattle.words.specs.Row.{row_of}
 use Rattle.words.proofs.Fields.{bit_lt, field_lt}
-use Rattle.blocks.specs.Views.{word_index, place_of, occupied_bit_in, runend_in, offset_in, remainder_in}
+use Rattle.blocks.specs.Views.{word_index, place_of, runend_in, offset_in, remainder_in}
 use Rattle.blocks.specs.Writes.{WroteRunend, WroteOffset, WroteRemainder}
 use Rattle.blocks.specs.Moves.{Holds, Within, ShiftedUp, ShiftedDown, MovedUp, MovedDown, CopiedEntry, ChangedOffsets}
 

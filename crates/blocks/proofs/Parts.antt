@@ -1,6 +1,6 @@
 -- Words of blocks and fields of remainders lie apart.
-use Rattle.std.proofs.Common.{◌≡◌, ℕ, suc, ◌+◌, ◌-◌, ◌*◌, ◌/◌, ◌%◌, ◌<◌, ◌≤◌, ◌≢◌, ◌⊎◌, List, sym, refl, ap, ◌∙◌, inl, inr, ⊎_elim, le_trans, le_of_eq, mul-le-mul_right, suc-mul, arith}
-use Rattle.std.proofs.lemmas.Bool.{cases_order, cases_lt, cases_eq}
+use Rattle.std.proofs.Common.{◌≡◌, ℕ, ◌+◌, ◌*◌, ◌/◌, ◌%◌, ◌<◌, ◌≤◌, ◌≢◌, ◌⊎◌, sym, ap, inl, inr, ⊎_elim, le_trans, le_of_eq, mul-le-mul_right, suc-mul, arith}
+use Rattle.std.proofs.lemmas.Bool.{cases_order}
 use Rattle.blocks.specs.Views.{word_index, place_of}
 
 -- of two pieces of s places each, the earlier ends before the later begins

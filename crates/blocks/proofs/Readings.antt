@@ -1,12 +1,12 @@
 -- Reading back what words show.
-use Rattle.std.proofs.Common.{◌≡◌, ℕ, zero, suc, ◌*◌, ◌/◌, ◌%◌, ◌^◌, ◌<◌, ◌≤◌, List, [], ◌∷◌, length, get_or, replicate, sym, refl, ap, ◌∙◌, ⊎_elim, arith}
+use Rattle.std.proofs.Common.{◌≡◌, ℕ, zero, suc, ◌*◌, ◌/◌, ◌%◌, ◌^◌, ◌<◌, ◌≤◌, List, [], get_or, replicate, sym, refl, ap, ◌∙◌, ⊎_elim, arith}
 use mathlib.Core.Path.{fun_ext}
 use native.Mathlib.Nat.{zero-div, zero-mod}
 use Rattle.std.proofs.lemmas.List.{get_or_past, get_or-replicate, length-replicate}
 use Rattle.std.proofs.lemmas.Bool.{cases_lt}
 use Rattle.words.specs.Bits.{bit_at, field}
 use Rattle.words.specs.Row.{row_of}
-use Rattle.layout.specs.Rule.{Sorted, Roomy, laid, occupied_at, remainder_at, runend_at}
+use Rattle.layout.specs.Rule.{Sorted, Roomy, laid, occupied_at, remainder_at}
 use Rattle.layout.specs.Laws.{read_from}
 use Rattle.layout.proofs.Bounds.{empty_law}
 use Rattle.layout.proofs.Passes.{quotients_below}

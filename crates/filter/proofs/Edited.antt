@@ -1,10 +1,10 @@
 -- One entry more or less, from where it was found to the list that is then held.
-use Rattle.std.proofs.Common.{◌≡◌, ℕ, zero, suc, ◌+◌, ◌-◌, ◌*◌, ◌/◌, ◌^◌, ◌<◌, ◌≤◌, max, Bool, true, false, cond, ◌&&◌, eqb, ltb, leb, ◌≢◌, ◌⊎◌, List, [], ◌∷◌, length, get_or, filter, sym, refl, ap, ◌∙◌, subst, ap₂, inl, inr, ⊎_elim, true≢false, arith}
+use Rattle.std.proofs.Common.{◌≡◌, ℕ, zero, suc, ◌+◌, ◌-◌, ◌*◌, ◌^◌, ◌<◌, ◌≤◌, true, false, cond, ◌&&◌, eqb, ltb, ◌≢◌, ◌⊎◌, List, [], ◌∷◌, length, get_or, filter, sym, refl, ap, ◌∙◌, subst, ⊎_elim, true≢false, arith}
 use Rattle.std.proofs.lemmas.Bool.{cases_eq, cases_lt, cond-true, eq-eqb, ne_eqb, lt-ltb, le-ltb}
 use Rattle.std.proofs.lemmas.List.{length-map}
-use Rattle.layout.specs.Rule.{quotient, remainder, Sorted, insert, remove, run, many, Roomy}
+use Rattle.layout.specs.Rule.{quotient, remainder, insert, remove, run, many}
 use Rattle.layout.specs.Runs.{remainders}
-use Rattle.layout.specs.Load.{load, start, FirstFree, FirstIdle}
+use Rattle.layout.specs.Load.{start, FirstFree, FirstIdle}
 use Rattle.layout.specs.Moves.{Fit}
 use Rattle.layout.specs.Laws.{count}
 use Rattle.layout.proofs.Bags.{find_law}
@@ -14,7 +14,7 @@ use Rattle.layout.proofs.Edits.{insert_slots_law, remove_slots_law}
 use Rattle.layout.proofs.Inserts.{one_remove}
 use Rattle.layout.proofs.Loads.{load_step, remove_law}
 use Rattle.blocks.specs.Views.{occupied_bit_in, remainder_in, offset_in, Shows}
-use Rattle.filter.specs.Meaning.{size_of, held_in, Sound}
+use Rattle.filter.specs.Meaning.{held_in, Sound}
 use Rattle.filter.specs.Editing.{EntryPut, EntryGone}
 use Rattle.filter.proofs.Editings.{put_shows, gone_shows}
 use Rattle.filter.proofs.Locatings.{within, load_is}

@@ -1,16 +1,16 @@
 -- One entry more or less in the words is one fingerprint more or less in the list that they show.
-use Rattle.std.proofs.Common.{◌≡◌, ℕ, zero, suc, ◌+◌, ◌-◌, ◌*◌, ◌<◌, ◌≤◌, Bool, true, false, cond, ◌&&◌, eqb, ltb, leb, ◌≢◌, ◌⊎◌, List, length, get_or, sym, refl, ap, ◌∙◌, subst, ap₂, inl, inr, ⊎_elim, arith}
+use Rattle.std.proofs.Common.{◌≡◌, ℕ, zero, suc, ◌+◌, ◌-◌, ◌*◌, ◌<◌, ◌≤◌, true, false, cond, ◌&&◌, eqb, ltb, leb, ◌≢◌, ◌⊎◌, List, get_or, sym, ap, ◌∙◌, subst, inl, inr, ⊎_elim, arith}
 use Rattle.std.proofs.lemmas.List.{length-map}
 use Rattle.std.proofs.lemmas.Bool.{cases_order, cases_lt, cases_eq, cases_Bool, and_parts, and_cases, ltb-true, ltb-false, cond-true, cond-false, eq-eqb, ne_eqb, eqb-true, eqb-false, lt-ltb, le-ltb, le-leb, lt-leb}
-use Rattle.layout.specs.Rule.{bit, quotient, remainder, Sorted, insert, remove, laid, occupied_at, runend_at, offset_at, remainder_at, run, many}
+use Rattle.layout.specs.Rule.{bit, quotient, remainder, Sorted, insert, remove, laid, occupied_at, runend_at, remainder_at, run, many}
 use Rattle.layout.specs.Runs.{remainders}
 use Rattle.layout.specs.Load.{start, FirstFree, FirstIdle}
-use Rattle.layout.specs.Moves.{Fit, Slid, SlidEnds, Inserted}
+use Rattle.layout.specs.Moves.{Fit, Slid, SlidEnds}
 use Rattle.layout.proofs.Edits.{insert_slots_law, remove_slots_law, insert_offsets_law, remove_offsets_law, insert_occupied_law}
 use Rattle.layout.proofs.Bags.{remove_occupied_law}
 use Rattle.layout.proofs.Inserts.{one_remove}
 use Rattle.layout.proofs.Loads.{remove_law}
-use Rattle.blocks.specs.Views.{occupied_bit_in, runend_in, offset_in, remainder_in, Shows}
+use Rattle.blocks.specs.Views.{occupied_bit_in, runend_in, remainder_in, Shows}
 use Rattle.filter.specs.Editing.{EntryPut, EntryGone}
 
 -- every place is below p, p itself, one above a place from p up to u, or above u

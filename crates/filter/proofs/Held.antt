@@ -1,5 +1,5 @@
 -- What words that hold a layout give a filter: the fingerprints read back are those that were laid out.
-use Rattle.std.proofs.Common.{◌≡◌, ℕ, zero, suc, ◌+◌, ◌-◌, ◌*◌, ◌/◌, ◌^◌, ◌<◌, ◌≤◌, min, ◌⊎◌, List, [], ◌∷◌, ◌++◌, length, get_or, take, drop, replicate, sym, refl, ap, ◌∙◌, subst, inl, inr, ⊎_elim, mul-le-mul_right, div-mul-le_self, arith, shr_lt}
+use Rattle.std.proofs.Common.{◌≡◌, ℕ, zero, suc, ◌+◌, ◌-◌, ◌*◌, ◌/◌, ◌^◌, ◌<◌, ◌≤◌, ◌⊎◌, List, [], ◌++◌, length, get_or, take, replicate, sym, ap, ◌∙◌, subst, inl, inr, ⊎_elim, mul-le-mul_right, div-mul-le_self, arith, shr_lt}
 use Rattle.std.specs.List.{AllByRecursion as All}
 use Rattle.std.proofs.ByRecursion.{All-get_or, All-from_get_or}
 use Rattle.std.proofs.lemmas.List.{take-append-le, length-replicate, length-take, take_all}
@@ -7,11 +7,11 @@ use Rattle.std.proofs.lemmas.List.FromFn.{length-map-range_with_len}
 use Rattle.std.proofs.lemmas.Bool.{cases_lt}
 use Rattle.words.proofs.Rows.{Words}
 use Rattle.layout.specs.Rule.{quotient, Sorted, sorted, many_from, Crowded, Roomy}
-use Rattle.layout.specs.Format.{block_word, filter_words, block_count}
+use Rattle.layout.specs.Format.{filter_words, block_count}
 use Rattle.layout.proofs.Bags.{count_law}
 use Rattle.layout.proofs.Inserts.{sorted_sorted, all_sorted}
 use Rattle.layout.proofs.Rooms.{any_order_law, bound_law}
-use Rattle.blocks.specs.Views.{Shows, read_entries}
+use Rattle.blocks.specs.Views.{Shows}
 use Rattle.blocks.proofs.Forms.{words_from_views, views_from_words}
 use Rattle.blocks.proofs.Readings.{read_back, zeros_show, word_none}
 use Rattle.filter.specs.Meaning.{size_of, entries_of, Sound}

@@ -1,21 +1,19 @@
 -- Runs in words that hold a layout: where they start and stop, from a block's head alone.
-use Rattle.std.proofs.Common.{◌≡◌, ℕ, zero, suc, ◌+◌, ◌-◌, ◌*◌, ◌/◌, ◌%◌, ◌^◌, ◌<◌, ◌≤◌, max, Bool, true, false, eqb, ltb, ◌≢◌, ◌⊎◌, List, length, get_or, sym, refl, ap, ◌∙◌, subst, inl, inr, ⊎_elim, arith}
+use Rattle.std.proofs.Common.{◌≡◌, ℕ, zero, suc, ◌+◌, ◌-◌, ◌*◌, ◌/◌, ◌%◌, ◌<◌, ◌≤◌, max, Bool, true, false, eqb, ltb, List, sym, refl, ap, ◌∙◌, ⊎_elim, arith}
 use mathlib.Core.Path.{fun_ext}
 use mir.Val.{bool_byte}
-use Rattle.std.proofs.lemmas.Bool.{cases_lt, cases_eq}
-use Rattle.layout.specs.Rule.{bit, many, laid, offset_at, Sorted, Roomy}
-use Rattle.layout.specs.Runs.{remainders}
-use Rattle.layout.specs.Load.{load, start, busy, tally, rank, Ends}
+use Rattle.std.proofs.lemmas.Bool.{cases_lt}
+use Rattle.layout.specs.Rule.{bit, many, laid, offset_at}
+use Rattle.layout.specs.Load.{load, start, busy, tally, Ends}
 use Rattle.layout.specs.Laws.{Within}
 use Rattle.layout.proofs.Bounds.{within_law}
 use Rattle.layout.proofs.Bridge.{layout_law, offset_law}
 use Rattle.layout.proofs.Heads.{start_none, start_some, enough}
 use Rattle.layout.proofs.Loads.{jump_law}
-use Rattle.layout.proofs.Ranks.{tally_step, tally_mono, rank_is}
+use Rattle.layout.proofs.Ranks.{tally_step, tally_mono}
 use Rattle.layout.proofs.Stops.{block_stop_law}
-use Rattle.blocks.specs.Views.{occupied_bit_in, runend_in, offset_in, remainder_in}
-use Rattle.blocks.specs.Searches.{FoundRunend}
-use Rattle.filter.specs.Meaning.{size_of, held_in, Sound}
+use Rattle.blocks.specs.Views.{occupied_bit_in, runend_in}
+use Rattle.filter.specs.Meaning.{held_in, Sound}
 use Rattle.filter.specs.Locating.{head_in, AfterRuns}
 
 bit_two : (b : Bool) → bit b < 2

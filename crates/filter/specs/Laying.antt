@@ -1,6 +1,6 @@
 -- What the passes that lay out a list leave in the words: vs are the words after them.
-use Rattle.std.specs.Prelude.{◌≡◌, ℕ, ◌*◌, cond, List, ◌==◌}
-use Rattle.layout.specs.Rule.{laid, occupied_at, runend_at, offset_at, remainder_at}
+use Rattle.std.specs.Prelude.{◌≡◌, ℕ, cond, List, ◌==◌}
+use Rattle.layout.specs.Rule.{laid, occupied_at, runend_at, remainder_at}
 use Rattle.blocks.specs.Views.{occupied_bit_in, runend_in, offset_in, remainder_in}
 
 -- one entry of quotient c with remainder v in slot s, whose runend bit is e

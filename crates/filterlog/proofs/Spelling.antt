@@ -1,5 +1,5 @@
 -- How lines and commands match.
-use Rattle.std.proofs.Common.{◌≡◌, ℕ, ◌+◌, ◌-◌, ◌^◌, ◌<◌, ◌≤◌, List, [], ◌∷◌, ◌++◌, Some, None, sym, ap, ◌∙◌, subst, arith}
+use Rattle.std.proofs.Common.{◌≡◌, ℕ, ◌^◌, ◌<◌, ◌≤◌, List, [], ◌∷◌, ◌++◌, Some, None, sym, ◌∙◌, subst, arith}
 use Rattle.figures.specs.Figures.{Figure, Natural}
 use Rattle.figures.proofs.Words.{apart}
 use Rattle.filterlog.specs.declared.commands.Command.{Command}

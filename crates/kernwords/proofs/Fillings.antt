@@ -1,5 +1,5 @@
 -- From what a filter promises to the words of a list.
-use Rattle.std.proofs.Common.{◌≡◌, ℕ, zero, suc, ◌+◌, ◌*◌, ◌/◌, ◌%◌, ◌^◌, ◌<◌, ◌≤◌, min, List, [], ◌∷◌, ◌++◌, map, length, get_or, drop, replicate, Ok, Err, Result, sym, refl, ap, ◌∙◌, subst, ap₂, subst₂, mod-lt, mul-div_cancel, arith, pow_pos}
+use Rattle.std.proofs.Common.{◌≡◌, ℕ, zero, suc, ◌+◌, ◌*◌, ◌<◌, ◌≤◌, List, [], ◌∷◌, ◌++◌, map, length, drop, replicate, Ok, Err, Result, sym, ap, ◌∙◌, subst, ap₂, subst₂, mod-lt, mul-div_cancel, arith, pow_pos}
 use Rattle.std.proofs.lemmas.List.{drop_all, drop_at, length-replicate, append-nil}
 use Rattle.layout.specs.Rule.{Roomy}
 use Rattle.layout.specs.Format.{filter_words, block_count}

@@ -1,5 +1,5 @@
 -- Sorted pairs, of which each is kept once.
-use Rattle.std.proofs.Common.{◌≡◌, ℕ, zero, suc, ◌+◌, ◌<◌, Bool, true, false, cond, ◌⊎◌, List, [], ◌∷◌, length, get_or, ◌==◌, ◌&&◌, Ordering, Less, Equal, sym, refl, ap, ap₂, ◌∙◌, subst, inl, inr, ⊎_elim, true≢false, add-one, arith}
+use Rattle.std.proofs.Common.{◌≡◌, ℕ, zero, suc, ◌+◌, ◌<◌, Bool, true, false, ◌⊎◌, List, [], ◌∷◌, length, get_or, ◌==◌, ◌&&◌, Ordering, Less, Equal, sym, refl, ap, ap₂, ◌∙◌, subst, inl, inr, ⊎_elim, true≢false, add-one, arith}
 use Rattle.std.specs.Ordering.{is_lt, nat_cmp, ordering_then}
 use Rattle.std.specs.Cmp.{nat_cmp_is}
 use Rattle.std.specs.List.{items_where_true, ContainsAt as Has}

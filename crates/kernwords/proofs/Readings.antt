@@ -1,5 +1,5 @@
 -- A line has one reading at most.
-use Rattle.std.proofs.Common.{◌≡◌, ℕ, suc, ◌⊎◌, List, ◌∷◌, ◌++◌, ℤ, pos, negsuc, None, Err, sym, ap, ◌∙◌, subst, ⊎_elim, arith}
+use Rattle.std.proofs.Common.{◌≡◌, ℕ, suc, List, ◌∷◌, ◌++◌, ℤ, pos, negsuc, None, Err, sym, ap, ◌∙◌, subst, ⊎_elim, arith}
 use Rattle.figures.specs.declared.FigureFault.{FigureFault}
 use Rattle.figures.specs.declared.FigureFault.TheVariants.{Unreadable, TooLarge}
 use Rattle.figures.specs.Figures.{Figure}

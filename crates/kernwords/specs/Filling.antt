@@ -1,5 +1,5 @@
 -- The words of a list of pairs.
-use Rattle.std.specs.Prelude.{◌≡◌, ℕ, ◌+◌, ◌*◌, ◌%◌, ◌^◌, List, map, length, Ok, Err, vec_items, Result, Vec}
+use Rattle.std.specs.Prelude.{◌≡◌, ℕ, ◌+◌, ◌*◌, ◌%◌, ◌^◌, List, length, Ok, Err, vec_items, Result, Vec}
 use Rattle.layout.specs.Rule.{Roomy}
 use Rattle.layout.specs.Format.{filter_words, block_count}
 use Rattle.filter.specs.Filters.{laid_over, Wide, Crowds}

@@ -1,12 +1,12 @@
 -- How often a fingerprint is there, and what the slots show.
-use Rattle.std.proofs.Common.{◌≡◌, ℕ, zero, suc, ◌+◌, ◌-◌, ◌<◌, ◌≤◌, Bool, true, false, cond, eqb, ltb, ◌≢◌, ◌⊎◌, List, [], ◌∷◌, ◌++◌, map, length, get_or, filter, sym, refl, ap, ◌∙◌, subst, ap₂, inl, inr, ⊎_elim, arith}
+use Rattle.std.proofs.Common.{◌≡◌, ℕ, suc, ◌+◌, ◌-◌, ◌<◌, ◌≤◌, Bool, true, false, cond, eqb, ltb, ◌≢◌, List, [], ◌∷◌, length, filter, sym, refl, ap, ◌∙◌, subst, ⊎_elim, arith}
 use Rattle.std.specs.List.{AllByRecursion as All}
 use Rattle.std.proofs.ByRecursion.{kept_by_passes}
 use Rattle.std.proofs.lemmas.Bool.{cases_lt, cases_eq, cond-true, cond-false, eq-eqb, ne_eqb, lt-ltb, le-ltb, eqb-true}
-use Rattle.layout.specs.Load.{load, start, OneMore, FirstFree}
-use Rattle.layout.specs.Rule.{bit, quotient, remainder, Sorted, insert, remove, sorted, laid, at, used_at, remainder_at, runend_at, offset_at, run, many, occupied_at}
+use Rattle.layout.specs.Load.{load, start}
+use Rattle.layout.specs.Rule.{bit, quotient, remainder, Sorted, insert, remove, sorted, laid, used_at, remainder_at, runend_at, offset_at, many, occupied_at}
 use Rattle.layout.specs.Runs.{fingerprint_at, remainders, PlaceLaw}
-use Rattle.layout.specs.Laws.{count, CountLaw, FindLaw, FreeLaw, RemoveOccupiedLaw}
+use Rattle.layout.specs.Laws.{CountLaw, FindLaw, FreeLaw, RemoveOccupiedLaw}
 use Rattle.layout.proofs.Bridge.{at_entry, layout_law, offset_law}
 use Rattle.layout.proofs.Moves.{used_is, bit_pos, bit_zero}
 use Rattle.layout.proofs.Inserts.{kept_insert, kept_remove, insert_front, length_insert, eqb_rems, one_remove}

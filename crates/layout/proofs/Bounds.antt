@@ -1,20 +1,19 @@
 -- Past the slots, no fingerprints, the place of a newcomer, and lists in any order.
-use Rattle.std.proofs.Common.{◌≡◌, ℕ, zero, suc, ◌+◌, ◌-◌, ◌<◌, ◌≤◌, max, Bool, true, false, cond, ◌&&◌, eqb, ltb, leb, ◌≢◌, ◌⊎◌, List, [], ◌∷◌, ◌++◌, map, length, get_or, filter, sym, refl, ap, ◌∙◌, subst, ap₂, inl, inr, ⊎_elim, arith}
+use Rattle.std.proofs.Common.{◌≡◌, ℕ, zero, suc, ◌+◌, ◌-◌, ◌<◌, ◌≤◌, Bool, ◌&&◌, eqb, ltb, leb, ◌≢◌, ◌⊎◌, List, [], ◌∷◌, ◌++◌, length, get_or, sym, refl, ap, ◌∙◌, inl, inr, ⊎_elim, arith}
 use Rattle.std.specs.List.{AllByRecursion as All}
 use Rattle.std.proofs.lemmas.List.{length-map}
 use Rattle.std.proofs.ByRecursion.{All-get_or}
-use Rattle.std.proofs.lemmas.Bool.{cases_lt, cases_eq, cond-true, cond-false, eq-eqb, ne_eqb, le-leb, lt-leb, and_left}
-use Rattle.layout.specs.Load.{load, start, StartLaw, CellsLaw, FirstIdle}
-use Rattle.layout.specs.Rule.{bit, quotient, remainder, Sorted, insert, remove, sorted, Entry, laid, at, used_at, remainder_at, runend_at, others, offset_at, run, many, many_from, occupied_at, Roomy}
+use Rattle.std.proofs.lemmas.Bool.{cases_lt, cases_eq, cond-false, eq-eqb, ne_eqb, le-leb, lt-leb, and_left}
+use Rattle.layout.specs.Load.{load, StartLaw, CellsLaw, FirstIdle}
+use Rattle.layout.specs.Rule.{bit, quotient, remainder, Sorted, insert, remove, sorted, Entry, laid, at, used_at, runend_at, others, offset_at, run, many, many_from}
 use Rattle.layout.specs.Runs.{remainders}
-use Rattle.layout.specs.Moves.{Fit}
-use Rattle.layout.specs.Laws.{last_slot, Within, WithinLaw, EmptyLaw, FitLaw, BagLaw, StopSlotsLaw, BalanceSlotsLaw, IdleLaw}
-use Rattle.layout.proofs.Loads.{load_step, load_none, cell_of}
+use Rattle.layout.specs.Laws.{WithinLaw, EmptyLaw, FitLaw, BagLaw, StopSlotsLaw, BalanceSlotsLaw, IdleLaw}
+use Rattle.layout.proofs.Loads.{load_step, cell_of}
 use Rattle.layout.proofs.Crowds.{room}
-use Rattle.layout.proofs.Splits.{upper, lower, halves, run_all}
+use Rattle.layout.proofs.Splits.{upper, halves, run_all}
 use Rattle.layout.proofs.Bridge.{layout_law, offset_law, lower_none}
 use Rattle.layout.proofs.Moves.{bit_zero}
-use Rattle.layout.proofs.Inserts.{insert_front, sorted_rems, sorted_kept, sorted_sorted, sorted_remove, all_remove, all_from}
+use Rattle.layout.proofs.Inserts.{insert_front, sorted_rems, sorted_kept, sorted_sorted, all_remove, all_from}
 use Rattle.layout.proofs.Rooms.{tails, to_numbers, room_law, room_load_law, used_law, used_jump_law}
 use Rattle.layout.proofs.Stops.{stop_law, balance_law}
 

@@ -1,12 +1,12 @@
 -- From the rule to runs at their starts.
-use Rattle.std.proofs.Common.{◌≡◌, ℕ, zero, suc, ◌+◌, ◌-◌, ◌<◌, ◌≤◌, max, Bool, true, false, cond, not, ◌&&◌, eqb, ltb, leb, ◌≢◌, ◌⊎◌, List, [], ◌∷◌, ◌++◌, map, length, get_or, take, drop, filter, sym, refl, ap, ◌∙◌, subst, ap₂, inl, inr, ⊎_elim, arith}
+use Rattle.std.proofs.Common.{◌≡◌, ℕ, zero, suc, ◌+◌, ◌-◌, ◌<◌, ◌≤◌, max, true, false, not, ◌&&◌, eqb, ltb, leb, ◌⊎◌, List, [], ◌∷◌, ◌++◌, map, length, get_or, take, drop, sym, refl, ap, ◌∙◌, subst, inl, inr, ⊎_elim, arith}
 use Rattle.std.specs.List.{AllByRecursion as All}
 use Rattle.std.proofs.lemmas.List.{take_more, drop_more, drop_all, length-map}
 use Rattle.std.proofs.ByRecursion.{All-get_or}
-use Rattle.std.proofs.lemmas.Bool.{cases_lt, cases_eq, cases_order, cond-true, cond-false, eq-eqb, ne_eqb, lt-ltb, le-ltb, le-leb, lt-leb, and_from, and_left, and_right}
+use Rattle.std.proofs.lemmas.Bool.{cases_lt, cond-true, cond-false, eq-eqb, ne_eqb, lt-ltb, le-ltb, le-leb, lt-leb, and_from, and_left, and_right}
 use Rattle.layout.specs.Load.{load, start}
 use Rattle.layout.specs.Rule.{bit, quotient, remainder, Sorted, Entry, laid, at, used_at, remainder_at, runend_at, others, run, many, offset_at}
-use Rattle.layout.specs.Runs.{remainders, InRuns, LayoutLaw, OffsetLaw}
+use Rattle.layout.specs.Runs.{remainders, LayoutLaw, OffsetLaw}
 use Rattle.layout.proofs.Loads.{load_step, load_none, start_step}
 use Rattle.layout.proofs.Ranks.{bit_eq, bit_ne}
 use Rattle.layout.proofs.Splits.{lower, upper, lower_step, upper_step, halves, run_all, upper_all, lower_all}

@@ -1,7 +1,7 @@
 -- No place is crowded just where the queue serves all.
-use Rattle.std.proofs.Common.{◌≡◌, ℕ, zero, suc, ◌+◌, ◌-◌, ◌<◌, ◌≤◌, ◌≢◌, ◌⊎◌, sym, refl, ap, ◌∙◌, ap₂, inl, inr, ⊎_elim, arith}
-use Rattle.std.proofs.lemmas.Bool.{cases_lt, cases_eq}
-use Rattle.layout.specs.Load.{load, OneMore, FirstFree, Tails, Uncrowded, Served, CrowdingLaw, InsertCrowdingLaw}
+use Rattle.std.proofs.Common.{◌≡◌, ℕ, zero, suc, ◌+◌, ◌-◌, ◌<◌, ◌≤◌, ap, ◌∙◌, ⊎_elim, arith}
+use Rattle.std.proofs.lemmas.Bool.{cases_lt}
+use Rattle.layout.specs.Load.{load, Tails, Uncrowded, Served, CrowdingLaw, InsertCrowdingLaw}
 use Rattle.layout.proofs.Loads.{load_step, load_none, above_c, raised}
 
 module _ (slots : ℕ) (m from : ℕ → ℕ) (tails : Tails m from) where

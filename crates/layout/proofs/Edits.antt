@@ -1,10 +1,10 @@
 -- One fingerprint more or less, in the slots of the rule.
-use Rattle.std.proofs.Common.{◌≡◌, ℕ, zero, suc, ◌+◌, ◌-◌, ◌<◌, ◌≤◌, Bool, true, false, cond, ◌&&◌, eqb, ltb, leb, ◌≢◌, ◌⊎◌, List, get_or, sym, refl, ap, ◌∙◌, subst, ap₂, inl, inr, ⊎_elim, arith}
+use Rattle.std.proofs.Common.{◌≡◌, ℕ, zero, suc, ◌-◌, ◌<◌, ◌≤◌, Bool, true, false, ◌&&◌, eqb, ltb, leb, ◌≢◌, sym, ap, ◌∙◌, subst, ⊎_elim, arith}
 use Rattle.std.proofs.lemmas.Bool.{cases_lt, cases_eq, cond-true, cond-false, eq-eqb, ne_eqb, le-leb, lt-leb, lt-ltb, le-ltb, and_from, and_left, and_right}
-use Rattle.layout.specs.Load.{load, start, OneMore, FirstFree, FirstIdle, Lowered, Raised}
-use Rattle.layout.specs.Rule.{bit, quotient, remainder, Sorted, insert, remove, laid, used_at, remainder_at, runend_at, offset_at, many, occupied_at}
+use Rattle.layout.specs.Load.{load, OneMore, FirstFree, FirstIdle, Lowered}
+use Rattle.layout.specs.Rule.{bit, quotient, remainder, insert, remove, laid, used_at, remainder_at, runend_at, many, occupied_at}
 use Rattle.layout.specs.Runs.{remainders}
-use Rattle.layout.specs.Moves.{Inserted, InsertSlotsLaw, RemoveSlotsLaw, InsertOffsetsLaw, RemoveOffsetsLaw, InsertOccupiedLaw}
+use Rattle.layout.specs.Moves.{InsertSlotsLaw, RemoveSlotsLaw, InsertOffsetsLaw, RemoveOffsetsLaw, InsertOccupiedLaw}
 use Rattle.layout.proofs.Loads.{load_step, raised, lowered}
 use Rattle.layout.proofs.Bridge.{layout_law, offset_law}
 use Rattle.layout.proofs.Moves.{slots_law, bit_pos}

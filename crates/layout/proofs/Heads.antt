@@ -1,9 +1,8 @@
 -- Where a run starts and stops, from a block's head: the runs before it end at the runends that are counted from the head on.
-use Rattle.std.proofs.Common.{◌≡◌, ℕ, zero, suc, ◌+◌, ◌-◌, ◌<◌, ◌≤◌, max, eqb, ◌≢◌, ◌⊎◌, sym, refl, ap, ◌∙◌, inl, inr, ⊎_elim, arith}
-use Rattle.std.proofs.lemmas.Bool.{cases_lt, cases_eq, cases_order}
-use Rattle.layout.specs.Rule.{bit}
-use Rattle.layout.specs.Load.{load, start, busy, tally, rank, Ends}
-use Rattle.layout.proofs.Loads.{load_step, start_mono}
+use Rattle.std.proofs.Common.{◌≡◌, ℕ, zero, suc, ◌+◌, ◌-◌, ◌<◌, ◌≤◌, max, ◌≢◌, ap, ⊎_elim, arith}
+use Rattle.std.proofs.lemmas.Bool.{cases_eq, cases_order}
+use Rattle.layout.specs.Load.{load, start, busy, tally, Ends}
+use Rattle.layout.proofs.Loads.{load_step}
 use Rattle.layout.proofs.Ranks.{tally_step, tally_mono, rank_is, last_one, bit_ne}
 use Rattle.layout.proofs.Stops.{block_stop_law}
 

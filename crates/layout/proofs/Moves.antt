@@ -1,11 +1,11 @@
 -- One entry more: each slot after it, by the run that it belongs to.
-use Rattle.std.proofs.Common.{◌≡◌, ℕ, zero, suc, ◌+◌, ◌-◌, ◌<◌, ◌≤◌, cond, eqb, ltb, ◌≢◌, ◌⊎◌, List, [], ◌∷◌, ◌++◌, length, get_or, take, drop, sym, refl, ap, ◌∙◌, subst, ap₂, inl, inr, ⊎_elim, arith}
-use Rattle.std.proofs.lemmas.Bool.{cases_lt, cases_eq, cases_order, cond-true, cond-false, eq-eqb, ne_eqb, lt-ltb, le-ltb}
+use Rattle.std.proofs.Common.{◌≡◌, ℕ, zero, suc, ◌+◌, ◌-◌, ◌<◌, ◌≤◌, eqb, ltb, ◌≢◌, ◌⊎◌, List, [], ◌∷◌, ◌++◌, length, get_or, take, drop, sym, refl, ap, ◌∙◌, ap₂, inl, inr, ⊎_elim, arith}
+use Rattle.std.proofs.lemmas.Bool.{cases_lt, cases_eq, cases_order, cond-true, cond-false, lt-ltb, le-ltb}
 use Rattle.layout.specs.Load.{load, start, OneMore, FirstFree, Raised}
 use Rattle.layout.specs.Rule.{bit}
 use Rattle.layout.specs.Runs.{InRuns}
-use Rattle.layout.specs.Moves.{Put, Slid, SlidEnds, Inserted, SlotsLaw}
-use Rattle.layout.proofs.Loads.{load_step, load_none, start_step, start_mono, stop_mono, cell_of, raised, jump_law}
+use Rattle.layout.specs.Moves.{Put, Inserted, SlotsLaw}
+use Rattle.layout.proofs.Loads.{load_step, start_mono, cell_of, raised, jump_law}
 use Rattle.layout.proofs.Ranks.{bit_eq, bit_ne}
 use Rattle.layout.proofs.Bridge.{empty}
 

@@ -1,13 +1,13 @@
 -- One pass over fingerprints in rising order: what each of them adds to the slots.
-use Rattle.std.proofs.Common.{◌≡◌, ℕ, zero, suc, ◌+◌, ◌-◌, ◌<◌, ◌≤◌, max, Bool, true, false, cond, not, eqb, ltb, leb, ◌≢◌, ◌⊎◌, List, [], ◌∷◌, ◌++◌, length, get_or, take, drop, filter, sym, refl, ap, ◌∙◌, subst, ap₂, inl, inr, ⊎_elim, arith}
+use Rattle.std.proofs.Common.{◌≡◌, ℕ, suc, ◌+◌, ◌-◌, ◌<◌, ◌≤◌, max, cond, not, eqb, ltb, leb, ◌≢◌, List, [], ◌∷◌, length, get_or, take, drop, sym, refl, ap, ◌∙◌, subst, ⊎_elim, arith}
 use Rattle.std.specs.List.{AllByRecursion as All}
-use Rattle.std.proofs.lemmas.List.{drop_more, drop_all, take-append-drop, append-nil, take_all, get_or-take, get_or-drop, length-take, length-drop}
-use Rattle.std.proofs.ByRecursion.{All-get_or, All-from_get_or}
+use Rattle.std.proofs.lemmas.List.{drop_more, drop_all, take-append-drop, append-nil, get_or-take, get_or-drop, length-take, length-drop}
+use Rattle.std.proofs.ByRecursion.{All-from_get_or}
 use Rattle.std.proofs.lemmas.List.Filters.{length-filter_more}
-use Rattle.std.proofs.lemmas.Bool.{cases_lt, cases_eq, cases_order, cond_both, cond-true, cond-false, eq-eqb, ne_eqb, lt-ltb, le-ltb, le-leb, lt-leb, eqb-true, eqb-false}
-use Rattle.layout.specs.Rule.{bit, quotient, remainder, Sorted, Entry, laid, at, others, runend_at, remainder_at, offset_at, many, many_from, occupied_at, Roomy}
+use Rattle.std.proofs.lemmas.Bool.{cases_lt, cases_eq, cases_order, cond-true, cond-false, eq-eqb, ne_eqb, lt-ltb, le-ltb, le-leb, lt-leb}
+use Rattle.layout.specs.Rule.{bit, quotient, Sorted, Entry, laid, at, others, runend_at, offset_at, many, many_from, occupied_at, Roomy}
 use Rattle.layout.proofs.Splits.{quotient_mono, upper}
-use Rattle.layout.proofs.Bridge.{after, after_mono, after_append, after_more, at_skip, at_under, late, empty}
+use Rattle.layout.proofs.Bridge.{after, after_mono, after_append, after_more, at_skip, at_under, late}
 use Rattle.layout.proofs.Bounds.{rises}
 use Rattle.layout.proofs.Rooms.{room_load_law, room_after}
 

@@ -1,9 +1,9 @@
 -- RANK and SELECT over the ends of the runs.
-use Rattle.std.proofs.Common.{◌≡◌, ℕ, zero, suc, ◌+◌, ◌-◌, ◌<◌, ◌≤◌, eqb, ltb, ◌≢◌, ◌⊎◌, sym, refl, ap, ◌∙◌, ap₂, inl, inr, ⊎_elim, arith}
+use Rattle.std.proofs.Common.{◌≡◌, ℕ, zero, suc, ◌+◌, ◌-◌, ◌<◌, ◌≤◌, eqb, ltb, ◌≢◌, sym, refl, ap, ◌∙◌, ⊎_elim, arith}
 use Rattle.std.proofs.lemmas.Bool.{cases_lt, cases_eq, cond-true, cond-false, eq-eqb, ne_eqb, lt-ltb, le-ltb}
 use Rattle.layout.specs.Load.{load, start, busy, tally, rank, Select, Ends, RankLaw, SelectLaw, BlockLaw}
 use Rattle.layout.specs.Rule.{bit}
-use Rattle.layout.proofs.Loads.{load_step, load_none, start_step, start_mono}
+use Rattle.layout.proofs.Loads.{load_step, load_none, start_mono}
 
 pub bit_eq : (a b : ℕ) → a ≡ b → bit (eqb a b) ≡ 1
 bit_eq a b e = cond-true (eqb a b) 1 0 (eq-eqb a b e)

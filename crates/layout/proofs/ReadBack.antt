@@ -1,10 +1,10 @@
 -- The fingerprints, read back from the slots.
-use Rattle.std.proofs.Common.{◌≡◌, ℕ, zero, suc, ◌+◌, ◌-◌, ◌*◌, ◌^◌, ◌<◌, ◌≤◌, max, Bool, true, false, cond, eqb, ltb, leb, ◌≢◌, ◌⊎◌, List, [], ◌∷◌, ◌++◌, map, length, get_or, drop, filter, sym, refl, ap, ◌∙◌, subst, ap₂, inl, inr, ⊎_elim, arith, drop-cons}
+use Rattle.std.proofs.Common.{◌≡◌, ℕ, zero, suc, ◌+◌, ◌-◌, ◌*◌, ◌^◌, ◌<◌, ◌≤◌, max, cond, eqb, List, [], ◌∷◌, ◌++◌, map, length, get_or, drop, sym, refl, ap, ◌∙◌, ap₂, ⊎_elim, arith, drop-cons}
 use Rattle.std.specs.List.{AllByRecursion as All}
-use Rattle.std.proofs.lemmas.List.{length-append, drop_all}
-use Rattle.std.proofs.lemmas.Bool.{cases_lt, cases_eq, cond-true, cond-false, eq-eqb, ne_eqb, lt-ltb, le-ltb}
-use Rattle.layout.specs.Load.{load, start}
-use Rattle.layout.specs.Rule.{bit, quotient, remainder, Sorted, laid, remainder_at, runend_at, run, many, many_from, occupied_at, Roomy}
+use Rattle.std.proofs.lemmas.List.{drop_all}
+use Rattle.std.proofs.lemmas.Bool.{cases_lt, cond-true, cond-false, eq-eqb, ne_eqb}
+use Rattle.layout.specs.Load.{start}
+use Rattle.layout.specs.Rule.{quotient, remainder, Sorted, laid, remainder_at, runend_at, run, many, occupied_at, Roomy}
 use Rattle.layout.specs.Runs.{remainders, InRuns}
 use Rattle.layout.specs.Laws.{run_from, read_from, ReadLaw}
 use Rattle.layout.proofs.Loads.{load_step, load_none}

@@ -1,13 +1,13 @@
 -- Room, rank and select, of the rule.
-use Rattle.std.proofs.Common.{◌≡◌, ℕ, zero, suc, ◌+◌, ◌-◌, ◌<◌, ◌≤◌, max, Bool, true, false, cond, eqb, ltb, leb, ◌≢◌, ◌⊎◌, List, [], ◌∷◌, ◌++◌, length, filter, sym, refl, ap, ◌∙◌, subst, ap₂, inl, inr, ⊎_elim, arith}
+use Rattle.std.proofs.Common.{◌≡◌, ℕ, suc, ◌+◌, ◌-◌, ◌<◌, ◌≤◌, max, Bool, true, false, cond, eqb, ltb, leb, List, [], ◌∷◌, ◌++◌, length, filter, sym, refl, ap, ◌∙◌, subst, ⊎_elim, arith}
 use Rattle.std.specs.List.{AllByRecursion as All}
 use Rattle.std.proofs.lemmas.List.{length-append, append-nil}
-use Rattle.std.proofs.lemmas.Bool.{cases_lt, cases_eq, cases_order, cases_Bool, cond-true, cond-false, eq-eqb, lt-leb, le-leb}
-use Rattle.layout.specs.Load.{load, start, tally, rank, Select, FirstFree, Tails, Uncrowded, Served}
-use Rattle.layout.specs.Rule.{bit, quotient, Sorted, insert, remove, sorted, Entry, laid, used_at, remainder_at, runend_at, offset_at, run, many, many_from, occupied_at, Crowded, Roomy}
+use Rattle.std.proofs.lemmas.Bool.{cases_lt, cases_order, cond-false, lt-leb}
+use Rattle.layout.specs.Load.{start, tally, rank, Select, Tails, Uncrowded}
+use Rattle.layout.specs.Rule.{bit, quotient, Sorted, insert, remove, sorted, laid, used_at, remainder_at, runend_at, offset_at, run, many, many_from, occupied_at, Roomy}
 use Rattle.layout.specs.Runs.{remainders}
 use Rattle.layout.specs.Laws.{RoomLaw, RoomLoadLaw, InsertRoomLaw, RemoveRoomLaw, AnyOrderLaw, BoundLaw, UsedLaw, UsedJumpLaw, last_slot, SelectSlotsLaw, RankSlotsLaw, BlockSlotsLaw, SelectOneLaw}
-use Rattle.layout.proofs.Loads.{load_step, find_free, jump_law}
+use Rattle.layout.proofs.Loads.{find_free, jump_law}
 use Rattle.layout.proofs.Crowds.{served, uncrowded, insert_crowding_law}
 use Rattle.layout.proofs.Ranks.{tally_step, tally_mono, rank_is, selected, in_block}
 use Rattle.layout.proofs.Splits.{lower, upper, upper_step, halves}

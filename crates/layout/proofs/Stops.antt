@@ -1,10 +1,10 @@
 -- Ends of runs as places to stop at.
-use Rattle.std.proofs.Common.{◌≡◌, ℕ, zero, suc, ◌+◌, ◌-◌, ◌<◌, ◌≤◌, max, ltb, ◌≢◌, ◌⊎◌, sym, refl, ap, ◌∙◌, subst, ap₂, inl, inr, ⊎_elim, arith}
-use Rattle.std.proofs.lemmas.Bool.{cases_lt, cases_eq, cond-true, cond-false, lt-ltb, le-ltb}
+use Rattle.std.proofs.Common.{◌≡◌, ℕ, zero, suc, ◌+◌, ◌-◌, ◌<◌, ◌≤◌, max, ltb, ◌≢◌, ◌⊎◌, sym, ap, ◌∙◌, subst, inl, inr, ⊎_elim, arith}
+use Rattle.std.proofs.lemmas.Bool.{cases_lt, cases_eq}
 use Rattle.layout.specs.Load.{load, start, busy, tally, rank, Select, Ends, BalanceLaw, BeforeLaw, StopLaw, BlockStopLaw}
 use Rattle.layout.specs.Rule.{bit}
-use Rattle.layout.proofs.Loads.{load_step, load_none, start_mono, cell_of}
-use Rattle.layout.proofs.Ranks.{bit_eq, bit_ne, tally_step, tally_mono, rank_is, selected}
+use Rattle.layout.proofs.Loads.{load_step, start_mono, cell_of}
+use Rattle.layout.proofs.Ranks.{bit_eq, tally_step, tally_mono, rank_is, selected}
 use Rattle.layout.proofs.Moves.{bit_pos, bit_zero}
 use Rattle.layout.proofs.Rooms.{select_one_law}
 

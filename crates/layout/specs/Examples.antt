@@ -1,6 +1,6 @@
 -- Fingerprints 6, 1, 0, 5, 4 and 17 with remainders of 2 bits: quotients 1, 0, 0, 1, 1 and 4. The run of 1 starts in slot 2, and takes slot 4 from quotient 4.
 use Rattle.std.specs.Prelude.{◌≡◌, ℕ, List, [], ◌∷◌, map}
-use Rattle.layout.specs.Rule.{Entry, sorted, laid, layout, used_at, remainder_at, runend_at, offset_at, occupied_at, many_from}
+use Rattle.layout.specs.Rule.{layout, used_at, remainder_at, runend_at, offset_at, occupied_at, many_from}
 use Rattle.layout.specs.Laws.{read_from}
 
 abbrev pub six : List ℕ

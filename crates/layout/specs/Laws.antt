@@ -2,8 +2,8 @@
 use Rattle.std.specs.Prelude.{◌≡◌, ℕ, zero, suc, ◌+◌, ◌-◌, ◌*◌, ◌^◌, ◌<◌, ◌≤◌, max, cond, ◌⊎◌, List, [], ◌∷◌, ◌++◌, map, length, filter, ◌==◌, nat_eq, nat_lt, slice_index}
 use Rattle.std.specs.List.{AllByRecursion as All}
 use Rattle.layout.specs.Moves.{Fit}
-use Rattle.layout.specs.Load.{load, start, tally, rank, Select, FirstFree, FirstIdle}
-use Rattle.layout.specs.Rule.{bit, quotient, remainder, Sorted, insert, remove, sorted, Entry, laid, used_at, remainder_at, runend_at, offset_at, many, many_from, occupied_at, Crowded, Roomy}
+use Rattle.layout.specs.Load.{load, tally, rank, Select, FirstFree, FirstIdle}
+use Rattle.layout.specs.Rule.{bit, quotient, remainder, Sorted, insert, remove, sorted, laid, used_at, remainder_at, runend_at, offset_at, many, many_from, occupied_at, Crowded, Roomy}
 use Rattle.layout.specs.Runs.{remainders}
 
 -- ---- room

@@ -1,6 +1,6 @@
 -- What one entry more moves in the slots.
 use Rattle.std.specs.Prelude.{◌≡◌, ℕ, suc, ◌+◌, ◌-◌, ◌<◌, ◌≤◌, cond, ◌&&◌, ◌≢◌, ◌⊎◌, List, ◌∷◌, ◌++◌, length, take, drop, ◌==◌, nat_le, nat_lt, slice_index}
-use Rattle.layout.specs.Load.{load, start, OneMore, FirstFree, FirstIdle}
+use Rattle.layout.specs.Load.{start, OneMore, FirstFree, FirstIdle}
 use Rattle.layout.specs.Rule.{bit, quotient, remainder, Sorted, insert, remove, sorted, laid, used_at, remainder_at, runend_at, offset_at, many, occupied_at}
 use Rattle.layout.specs.Runs.{InRuns, remainders}
 

@@ -1,5 +1,5 @@
 -- The layout rule: in which slot each fingerprint of a list lies, and what a slot then shows.
-use Rattle.std.specs.Prelude.{◌≡◌, ℕ, suc, ◌+◌, ◌-◌, ◌/◌, ◌%◌, ◌^◌, ◌<◌, ◌≤◌, max, Bool, true, cond, not, ◌&&◌, leb, List, [], ◌∷◌, length, filter, ◌==◌, nat_eq, nat_le, nat_lt}
+use Rattle.std.specs.Prelude.{ℕ, suc, ◌+◌, ◌-◌, ◌/◌, ◌%◌, ◌^◌, ◌<◌, ◌≤◌, max, Bool, true, cond, not, ◌&&◌, leb, List, [], ◌∷◌, length, filter, ◌==◌, nat_eq, nat_le, nat_lt}
 use Rattle.std.specs.List.{AllByRecursion as All}
 
 -- ---- a fingerprint, with remainders of r bits

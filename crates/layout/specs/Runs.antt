@@ -1,6 +1,6 @@
 -- The slots seen by runs.
 use Rattle.std.specs.Prelude.{◌≡◌, ℕ, suc, ◌+◌, ◌-◌, ◌<◌, ◌≤◌, List, map, length, nat_lt, slice_index}
-use Rattle.layout.specs.Rule.{quotient, remainder, Sorted, Entry, laid, bit, at, used_at, remainder_at, runend_at, offset_at, run, many}
+use Rattle.layout.specs.Rule.{remainder, Sorted, Entry, laid, bit, at, used_at, remainder_at, runend_at, offset_at, run, many}
 use Rattle.layout.specs.Load.{load, start, Ends}
 
 -- the remainders of quotient c

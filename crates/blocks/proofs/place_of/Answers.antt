@@ -1,4 +1,4 @@
-use Rattle.std.proofs.Common.{◌+◌, ◌*◌, ◌/◌, ◌%◌, ◌≤◌, mul-le-mul_left, arith}
+use Rattle.std.proofs.Common.{◌+◌, ◌/◌, ◌%◌, ◌≤◌, mul-le-mul_left, arith}
 use Rattle.blocks.proofs.place_of.Goals as goal
 
 pub overflow_mul-result : goal.overflow_mul-result

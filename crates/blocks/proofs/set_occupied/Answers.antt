@@ -1,4 +1,4 @@
-use Rattle.std.proofs.Common.{◌≡◌, ℕ, ◌/◌, ◌%◌, ◌<◌, cond, eqb, List, get_or, set, sym, ap, subst, arith, rules}
+use Rattle.std.proofs.Common.{◌≡◌, ℕ, ◌%◌, ◌<◌, cond, eqb, get_or, set, sym, subst, arith, rules}
 use Rattle.words.specs.Bits.{bit_at}
 use Rattle.words.proofs.Rows.{Words}
 use Rattle.blocks.specs.Writes.{WroteOccupied}

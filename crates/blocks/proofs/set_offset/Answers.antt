@@ -1,4 +1,4 @@
-use Rattle.std.proofs.Common.{◌<◌, set, sym, subst, arith, rules}
+use Rattle.std.proofs.Common.{set, sym, subst, arith, rules}
 use Rattle.words.proofs.Rows.{Words}
 use Rattle.blocks.specs.Writes.{WroteOffset}
 use Rattle.blocks.proofs.Heads.{wrote_offset}

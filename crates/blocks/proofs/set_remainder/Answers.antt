@@ -1,4 +1,4 @@
-use Rattle.std.proofs.Common.{◌≡◌, ℕ, ◌+◌, ◌%◌, ◌^◌, ◌<◌, ◌≤◌, ◌⊎◌, subst, arith, rules}
+use Rattle.std.proofs.Common.{◌≡◌, ℕ, ◌+◌, ◌%◌, ◌^◌, ◌≤◌, ◌⊎◌, subst, arith, rules}
 use Rattle.words.specs.Bits.{field}
 use Rattle.words.specs.Row.{row_of}
 use Rattle.words.proofs.Rows.{Words}

@@ -1,4 +1,4 @@
-use Rattle.std.proofs.Common.{◌≡◌, ℕ, ◌+◌, ◌-◌, ◌/◌, ◌^◌, ◌<◌, ◌≤◌, max, length, get_or, take, sym, ap, ◌∙◌, arith, shr-shr, rules}
+use Rattle.std.proofs.Common.{◌≡◌, ℕ, ◌+◌, ◌-◌, ◌/◌, ◌^◌, ◌<◌, ◌≤◌, get_or, ap, ◌∙◌, arith, shr-shr, rules}
 use lib.Pow.{shr_le}
 use Rattle.std.proofs.lemmas.List.{take_all}
 use Rattle.layout.specs.Rule.{quotient}

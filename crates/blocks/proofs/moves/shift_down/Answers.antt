@@ -1,4 +1,4 @@
-use Rattle.std.proofs.Common.{◌≡◌, ◌+◌, sym, subst, add-one, arith}
+use Rattle.std.proofs.Common.{◌≡◌, sym, subst, add-one, arith}
 use Rattle.blocks.specs.Moves.{MovedDown, CopiedEntry}
 use Rattle.blocks.proofs.Moving.{within_below, moved_down_none, moved_down_more}
 use Rattle.blocks.proofs.moves.shift_down.Goals as goal

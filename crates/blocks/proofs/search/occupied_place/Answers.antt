@@ -1,6 +1,5 @@
 use Rattle.std.proofs.Common.{◌≡◌, ℕ, ◌+◌, ◌*◌, ◌<◌, List, get_or, Some, None, Option, sym, ap, ◌∙◌, inl, inr, ⊎_elim, arith, MatchOption}
 use Rattle.words.specs.Bits.{bit_at, ones_under, Selected}
-use Rattle.layout.specs.Load.{tally}
 use Rattle.blocks.specs.Searches.{NoOccupied, FoundOccupied}
 use Rattle.blocks.specs.Views.{word_index, occupied_bit_in}
 use Rattle.blocks.proofs.Tallies.{tally_more, occupied_bit, occupied_ones}

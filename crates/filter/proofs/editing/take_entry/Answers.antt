@@ -1,7 +1,7 @@
-use Rattle.std.proofs.Common.{◌≡◌, ℕ, ◌+◌, ◌-◌, ◌*◌, ◌^◌, ◌<◌, ◌≤◌, true, ◌&&◌, eqb, ltb, sym, ap, ◌∙◌, subst, arith, rules}
+use Rattle.std.proofs.Common.{◌+◌, ◌-◌, eqb, ltb, sym, ◌∙◌, subst, arith, rules}
 use Rattle.std.proofs.lemmas.Bool.{and_parts, ltb-true}
-use Rattle.layout.specs.Rule.{quotient, remainder, many, remove}
-use Rattle.layout.specs.Load.{start, FirstIdle}
+use Rattle.layout.specs.Rule.{quotient, many, remove}
+use Rattle.layout.specs.Load.{FirstIdle}
 use Rattle.words.proofs.Rows.{Words}
 use Rattle.layout.proofs.Inserts.{sorted_remove}
 use Rattle.blocks.specs.Views.{Shows}

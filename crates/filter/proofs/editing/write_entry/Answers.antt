@@ -1,4 +1,4 @@
-use Rattle.std.proofs.Common.{◌≡◌, ℕ, ◌+◌, ◌-◌, ◌*◌, ◌/◌, ◌%◌, ◌^◌, ◌<◌, ◌≤◌, cond, not, length, sym, ap, ◌∙◌, subst, mod-eq_of_lt, arith}
+use Rattle.std.proofs.Common.{◌≡◌, ◌+◌, ◌*◌, ◌/◌, ◌<◌, length, subst, mod-eq_of_lt, arith}
 use Rattle.blocks.specs.Writes.{WroteRemainder}
 use Rattle.blocks.proofs.Parts.{head_inside, slot_inside}
 use Rattle.blocks.proofs.Moving.{holds_all, within_all}

@@ -1,4 +1,4 @@
-use Rattle.std.proofs.Common.{◌≡◌, ℕ, ◌+◌, ◌-◌, ◌*◌, ◌/◌, ◌%◌, ◌^◌, ◌<◌, ◌≤◌, cond, not, length, sym, ap, ◌∙◌, subst, arith}
+use Rattle.std.proofs.Common.{◌≡◌, ◌+◌, ◌*◌, ◌/◌, ◌^◌, ◌<◌, length, subst, arith}
 use native.Mathlib.Nat.{zero-mod}
 use Rattle.blocks.specs.Writes.{WroteRemainder}
 use Rattle.blocks.proofs.Parts.{head_inside, slot_inside}

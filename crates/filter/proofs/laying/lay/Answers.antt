@@ -1,4 +1,4 @@
-use Rattle.std.proofs.Common.{◌≡◌, ◌+◌, ◌*◌, List, [], length, sym, subst, arith, rules}
+use Rattle.std.proofs.Common.{[], length, sym, subst, arith, rules}
 use Rattle.words.proofs.Rows.{Words}
 use Rattle.blocks.specs.Views.{Shows}
 use Rattle.blocks.proofs.Forms.{words_from_views}

@@ -1,11 +1,11 @@
-use Rattle.std.proofs.Common.{◌≡◌, ℕ, suc, ◌+◌, ◌*◌, ◌/◌, ◌^◌, ◌<◌, ◌≤◌, max, cond, eqb, ltb, List, [], length, get_or, take, sym, refl, ap, ◌∙◌, subst, ap₂, add-one, arith, rules}
+use Rattle.std.proofs.Common.{◌≡◌, ℕ, suc, ◌+◌, ◌*◌, ◌<◌, ◌≤◌, cond, eqb, ltb, get_or, take, sym, refl, ap, ◌∙◌, arith}
 use Rattle.std.proofs.ByRecursion.{All-get_or}
 use Rattle.std.proofs.lemmas.List.{take_all}
 use Rattle.layout.specs.Rule.{bit, quotient, remainder, laid, others, occupied_at, runend_at, remainder_at}
 use Rattle.layout.proofs.Bounds.{empty_law}
 use Rattle.layout.proofs.Bridge.{after, after_more}
 use Rattle.layout.proofs.Passes.{advance, advanced, advance_none, next_of, slot_of, at_slot, at_gap, at_end, occupied_more, quotients_below, slot_below}
-use Rattle.blocks.specs.Views.{occupied_bit_in, runend_in, offset_in, remainder_in}
+use Rattle.blocks.specs.Views.{runend_in, remainder_in}
 use Rattle.filter.proofs.laying.lay_entries.Goals as goal
 
 pub loop-i-init : goal.loop-i-init

@@ -1,9 +1,7 @@
-use Rattle.std.proofs.Common.{◌≡◌, ℕ, ◌+◌, ◌*◌, ◌/◌, ◌%◌, ◌^◌, ◌<◌, ◌≤◌, cond, eqb, List, length, sym, ap, ◌∙◌, ap₂, arith, rules}
+use Rattle.std.proofs.Common.{◌≡◌, ◌+◌, ◌*◌, ◌/◌, ◌%◌, ◌^◌, ◌<◌, cond, eqb, length, ap, ◌∙◌, ap₂, arith}
 use lib.Bits.{and_mask}
 use Rattle.words.proofs.Fields.{low_low}
 use Rattle.layout.specs.Rule.{quotient, remainder}
-use Rattle.blocks.specs.Views.{word_index, place_of, occupied_bit_in, runend_in, offset_in, remainder_in}
-use Rattle.blocks.specs.Writes.{WroteOccupied, WroteRunend, WroteRemainder}
 use Rattle.blocks.proofs.Parts.{head_inside, slot_inside}
 use Rattle.filter.proofs.laying.lay_entry.Goals as goal
 

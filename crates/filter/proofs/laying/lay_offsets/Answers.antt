@@ -1,11 +1,10 @@
-use Rattle.std.proofs.Common.{◌≡◌, ℕ, suc, ◌+◌, ◌-◌, ◌*◌, ◌<◌, ◌≤◌, cond, eqb, ltb, List, length, get_or, sym, refl, ap, ◌∙◌, subst, ⊎_elim, arith}
+use Rattle.std.proofs.Common.{◌≡◌, ℕ, suc, ◌+◌, ◌*◌, ◌<◌, ◌≤◌, cond, ltb, get_or, ap, ◌∙◌, ⊎_elim, arith}
 use Rattle.std.proofs.lemmas.Bool.{cases_lt}
 use Rattle.layout.specs.Rule.{quotient, laid, offset_at}
 use Rattle.layout.proofs.Bounds.{within_law}
-use Rattle.layout.proofs.Passes.{advance, advanced, next_of, offset_cut}
+use Rattle.layout.proofs.Passes.{advance, advanced, offset_cut}
 use Rattle.layout.proofs.Rooms.{room_after}
 use Rattle.blocks.specs.Views.{offset_in}
-use Rattle.blocks.specs.Writes.{WroteOffset}
 use Rattle.blocks.proofs.Parts.{head_inside}
 use Rattle.filter.proofs.laying.lay_offsets.Goals as goal
 

@@ -1,8 +1,8 @@
-use Rattle.std.proofs.Common.{◌≡◌, ℕ, ◌+◌, ◌<◌, ◌≤◌, ◌≢◌, length, get_or, sym, ap, subst, ⊎_elim, arith}
+use Rattle.std.proofs.Common.{◌≡◌, ◌+◌, ◌<◌, ◌≢◌, get_or, sym, subst, ⊎_elim, arith}
 use Rattle.std.proofs.lemmas.Bool.{cases_eq}
 use Rattle.layout.specs.Rule.{quotient}
 use Rattle.layout.proofs.Bridge.{after_more}
-use Rattle.layout.proofs.Passes.{next_of, next_below}
+use Rattle.layout.proofs.Passes.{next_below}
 use Rattle.filter.proofs.laying.skip_below.Goals as goal
 
 pub overflow_add-after : goal.overflow_add-after

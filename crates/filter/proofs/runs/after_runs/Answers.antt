@@ -1,4 +1,4 @@
-use Rattle.std.proofs.Common.{◌≡◌, suc, ◌+◌, ◌*◌, ◌/◌, ◌≤◌, sym, ap, ◌∙◌, ⊎_elim, arith}
+use Rattle.std.proofs.Common.{◌≡◌, suc, ◌+◌, ◌*◌, ◌/◌, ap, ⊎_elim, arith}
 use Rattle.layout.specs.Rule.{many}
 use Rattle.layout.specs.Load.{start, tally}
 use Rattle.blocks.specs.Views.{runend_in}

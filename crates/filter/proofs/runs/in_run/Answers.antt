@@ -1,4 +1,4 @@
-use Rattle.std.proofs.Common.{◌≡◌, ◌+◌, ◌≤◌, ◌≢◌, ◌⊎◌, sym, ap, ◌∙◌, inl, inr, arith}
+use Rattle.std.proofs.Common.{◌+◌, ◌≤◌, ◌≢◌, ◌⊎◌, sym, ap, ◌∙◌, inl, inr}
 use Rattle.layout.specs.Rule.{many}
 use Rattle.blocks.specs.Views.{remainder_in}
 use Rattle.filter.specs.Meaning.{held_in}

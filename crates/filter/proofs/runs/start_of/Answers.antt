@@ -1,5 +1,5 @@
-use Rattle.std.proofs.Common.{◌≡◌, suc, ◌+◌, ◌-◌, ◌*◌, ◌/◌, ◌≤◌, sym, ◌∙◌, arith}
-use Rattle.layout.proofs.Ranks.{tally_step, tally_mono}
+use Rattle.std.proofs.Common.{suc, arith}
+use Rattle.layout.proofs.Ranks.{tally_mono}
 use Rattle.blocks.specs.Views.{occupied_bit_in}
 use Rattle.filter.proofs.Locatings.{runends_enough, start_found}
 use Rattle.filter.proofs.runs.start_of.Goals as goal

@@ -1,4 +1,4 @@
-use Rattle.std.proofs.Common.{◌≡◌, suc, ◌+◌, arith}
+use Rattle.std.proofs.Common.{◌+◌, arith}
 use Rattle.filter.proofs.Locatings.{upto_is, upto_few, runends_enough, stop_found}
 use Rattle.filter.proofs.runs.stop_of.Goals as goal
 

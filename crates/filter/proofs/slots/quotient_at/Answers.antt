@@ -1,4 +1,4 @@
-use Rattle.std.proofs.Common.{◌≡◌, ◌+◌, ◌-◌, ◌*◌, ◌<◌, ap, ◌∙◌, arith}
+use Rattle.std.proofs.Common.{◌+◌, ◌-◌, ◌<◌, ap, ◌∙◌, arith}
 use Rattle.layout.specs.Rule.{many}
 use Rattle.layout.specs.Load.{load, tally}
 use Rattle.blocks.specs.Views.{runend_in}

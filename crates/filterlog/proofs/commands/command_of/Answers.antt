@@ -1,5 +1,5 @@
 use Rattle.std.proofs.Common.{◌≡◌, ◌^◌, ◌<◌, ◌≤◌, [], ◌∷◌, rules}
-use Rattle.figures.proofs.Words.{begun, spelt}
+use Rattle.figures.proofs.Words.{begun}
 use Rattle.filterlog.proofs.Spelling.{no_add, no_take, no_has, no_slot, wide_slot, bare_slot, renumbered}
 use Rattle.filterlog.proofs.commands.command_of.Goals as goal
 

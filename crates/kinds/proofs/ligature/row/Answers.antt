@@ -1,4 +1,4 @@
-use Rattle.std.proofs.Common.{◌≡◌, ℕ, ◌*◌, List, [], ◌∷◌, get_or, take, refl, ap, ◌∙◌}
+use Rattle.std.proofs.Common.{◌≡◌, ◌*◌, [], ◌∷◌, take, refl, ap, ◌∙◌}
 use Rattle.kinds.specs.Bytes.{glyph_bytes}
 use Rattle.kinds.specs.Glyphs.{four, first_bytes}
 use Rattle.kinds.proofs.ligature.row.Goals as goal

@@ -1,5 +1,4 @@
-use Rattle.std.proofs.Common.{◌≡◌, length, sym, refl, ap, ◌∙◌, arith}
-use Rattle.filter.proofs.Held.{Facts}
+use Rattle.std.proofs.Common.{◌≡◌, length, refl, ◌∙◌, arith}
 use Rattle.filter.proofs.Promises.{room_of, few_of, none_facts, none_held}
 use Rattle.filter.proofs.filter.Filter.clear.Goals as goal
 

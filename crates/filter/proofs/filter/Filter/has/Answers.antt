@@ -1,4 +1,4 @@
-use Rattle.std.proofs.Common.{◌≡◌, ℕ, ◌-◌, ◌*◌, ◌<◌, Bool, true, false, ltb, get_or, take, is_some, Some, None, Option, sym, refl, ap, ◌∙◌, arith, MatchOption}
+use Rattle.std.proofs.Common.{◌≡◌, ℕ, ◌-◌, ltb, get_or, take, is_some, Some, None, Option, sym, ◌∙◌, arith, MatchOption}
 use Rattle.std.proofs.lemmas.Bool.{ltb-true, lt-ltb, le-ltb}
 use Rattle.layout.specs.Rule.{quotient, remainder}
 use Rattle.layout.specs.Runs.{remainders}

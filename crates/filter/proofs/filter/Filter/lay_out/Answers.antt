@@ -22,7 +22,7 @@ invariant_of-self c =
     let len : length f.words.now ≡ length vs = omega arith in
     let laid = subst (λ r. ListLaid r f.blocks list f.words.now vs c.lay_list.new.held c.lay_list.result) c.width.ensures c.lay_list.ensures.done in
     let all = laid_facts f.plan.q f.plan.r f.blocks c.lay_list.new.held list f.words.now vs c.lay_list.result
-        f.plan.some (f.sized ∙ ap (block_count f.plan.r) len) (c.if-not-all_admitted.ensures.yes refl) laid in
+    f.plan.some (f.sized ∙ ap (block_count f.plan.r) len) (c.if-not-all_admitted.ensures.yes refl) laid in
     record { sized = all.sized; laid = all.laid; rising = all.rising; roomy = all.roomy; narrow = all.narrow; counted = all.counted }
 
 pub returns : goal.returns

@@ -1,4 +1,4 @@
-use Rattle.std.proofs.Common.{◌≡◌, ℕ, List, take, sym, ap, ◌∙◌, subst, ap₂}
+use Rattle.std.proofs.Common.{◌≡◌, ℕ, List, take, sym, ap, ◌∙◌, ap₂}
 use Rattle.layout.specs.Format.{filter_words}
 use Rattle.filter.specs.Meaning.{size_of, held_in}
 use Rattle.filter.specs.Filters.{words_of, fingerprints, WordsOfList}
