@@ -136,8 +136,8 @@ mod tests {
         let Some((line, rest)) = next_line(b"a\n\nb") else {
             return Err(Fail::new("no line"));
         };
-        assert_eq!(rt; line, b"a");
-        assert_eq!(rt; rest, b"\nb");
+        assert_eq!(rt; line, b"a".as_slice());
+        assert_eq!(rt; rest, b"\nb".as_slice());
         assert!(rt; next_line(b"").is_none());
         Ok(())
     }
