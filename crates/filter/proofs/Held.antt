@@ -1,6 +1,6 @@
 -- What words that hold a layout give a filter: the fingerprints read back are those that were laid out.
 use Rattle.std.proofs.Common.{◌≡◌, ℕ, zero, suc, ◌+◌, ◌-◌, ◌*◌, ◌/◌, ◌^◌, ◌<◌, ◌≤◌, ◌⊎◌, List, [], ◌++◌, length, get_or, take, replicate, sym, ap, ◌∙◌, subst, inl, inr, ⊎_elim, mul-le-mul_right, div-mul-le_self, arith, shr_lt}
-use Rattle.std.specs.List.{AllByRecursion as All}
+use Rattle.std.specs.List.{AllByRecursion as Every}
 use Rattle.std.proofs.ByRecursion.{All-get_or, All-from_get_or}
 use Rattle.std.proofs.lemmas.List.{take-append-le, length-replicate, length-take, take_all}
 use Rattle.std.proofs.lemmas.List.FromFn.{length-map-range_with_len}
@@ -51,14 +51,14 @@ module _ (slots r : ℕ) (ps : List ℕ) where
       (cases_lt (slots - n) (many_from r ps n)))
       (crowded_below n)
 
-  pub find_crowded : (bound : ℕ) → All (λ p. quotient r p < bound) ps → (Roomy slots r ps → ⊥) → (c : ℕ) × (c < bound) × Crowded slots r ps c
+  pub find_crowded : (bound : ℕ) → Every (λ p. quotient r p < bound) ps → (Roomy slots r ps → ⊥) → (c : ℕ) × (c < bound) × Crowded slots r ps c
   find_crowded bound under full =
       ⊎_elim (λ w. w)
       (λ none. absurd (full (λ c h. ⊎_elim (λ (l : c < bound). none c l h) (λ (l : bound ≤ c). bound_law slots r bound ps under c l h) (cases_lt c bound))))
       (crowded_below bound)
 
 -- fingerprints under a plan have quotients under it
-pub quotients_under : (q r : ℕ) (ps : List ℕ) → ((k : ℕ) → k < length ps → get_or ps k 0 < 2 ^ (q + r)) → All (λ p. quotient r p < 2 ^ q) ps
+pub quotients_under : (q r : ℕ) (ps : List ℕ) → ((k : ℕ) → k < length ps → get_or ps k 0 < 2 ^ (q + r)) → Every (λ p. quotient r p < 2 ^ q) ps
 unfolding quotient
 quotients_under q r ps h = All-from_get_or (λ p. quotient r p < 2 ^ q) ps 0 (λ k l. shr_lt q r (h k l))
 

@@ -1,6 +1,6 @@
 -- What a line means.
 use Rattle.std.specs.Prelude.{◌≡◌, ℕ, ◌<◌, ◌≤◌, false, List, length, Ok, Err, Result}
-use Rattle.std.specs.List.{AllByRecursion as All}
+use Rattle.std.specs.List.{AllByRecursion as Every}
 use Rattle.history.specs.declared.operation.Operation.TheVariants.{Put, Drop, Find}
 use Rattle.kinds.specs.declared.sequence.Sequence.{Sequence}
 use Rattle.kinds.specs.declared.ligature.KeyFault.TheVariants.{BadSequence}
@@ -18,9 +18,9 @@ abbrev pub InRange : Shape → Type 0
 InRange (pair a b z) = Glyph a × Glyph b × Within z
 InRange (drop a b) = Glyph a × Glyph b
 InRange (find a b) = Glyph a × Glyph b
-InRange (lig gs g) = All Glyph gs × Glyph g
-InRange (unlig gs) = All Glyph gs
-InRange (seek gs) = All Glyph gs
+InRange (lig gs g) = Every Glyph gs × Glyph g
+InRange (unlig gs) = Every Glyph gs
+InRange (seek gs) = Every Glyph gs
 
 -- the glyphs are too few or too many for a sequence
 abbrev pub NoSequence : Shape → Type 0

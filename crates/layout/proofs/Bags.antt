@@ -1,6 +1,6 @@
 -- How often a fingerprint is there, and what the slots show.
 use Rattle.std.proofs.Common.{◌≡◌, ℕ, suc, ◌+◌, ◌-◌, ◌<◌, ◌≤◌, Bool, true, false, cond, eqb, ltb, ◌≢◌, List, [], ◌∷◌, length, filter, sym, refl, ap, ◌∙◌, subst, ⊎_elim, arith}
-use Rattle.std.specs.List.{AllByRecursion as All}
+use Rattle.std.specs.List.{AllByRecursion as Every}
 use Rattle.std.proofs.ByRecursion.{kept_by_passes}
 use Rattle.std.proofs.lemmas.Bool.{cases_lt, cases_eq, cond-true, cond-false, eq-eqb, ne_eqb, lt-ltb, le-ltb, eqb-true}
 use Rattle.layout.specs.Load.{load, start}
@@ -20,7 +20,7 @@ place_law r ps s c j l =
     )
 
 -- of a list of which each element is p
-length_remove_same : (p : ℕ) (ps : List ℕ) → All (λ q. eqb q p ≡ true) ps → length (remove p ps) ≡ length ps - 1
+length_remove_same : (p : ℕ) (ps : List ℕ) → Every (λ q. eqb q p ≡ true) ps → length (remove p ps) ≡ length ps - 1
 unfolding remove
 length_remove_same p [] a = omega arith
 length_remove_same p (q ∷ qs) (e, a) = rw (eq-eqb p q (sym (eqb-true q p e))) (omega arith)
@@ -42,7 +42,7 @@ count_law p q ps =
           (λ (e : p ≡ q).
           let one : bit (eqb p q) ≡ 1 = cond-true (eqb p q) 1 0 (eq-eqb p q e) in
           ap length (cond-true (eqb p q) _ _ (eq-eqb p q e))
-          ∙ omega (arith, one, length_remove_same p (filter t ps) (subst (λ z. All (λ x. eqb x z ≡ true) (filter t ps)) (sym e) (kept_by_passes t ps))))
+          ∙ omega (arith, one, length_remove_same p (filter t ps) (subst (λ z. Every (λ x. eqb x z ≡ true) (filter t ps)) (sym e) (kept_by_passes t ps))))
           (λ (e : p ≢ q).
           let none : bit (eqb p q) ≡ 0 = cond-false (eqb p q) 1 0 (ne_eqb p q e) in
           ap length (cond-false (eqb p q) _ _ (ne_eqb p q e)) ∙ omega (arith, none))

@@ -1,6 +1,6 @@
 -- Past the slots, no fingerprints, the place of a newcomer, and lists in any order.
 use Rattle.std.proofs.Common.{◌≡◌, ℕ, zero, suc, ◌+◌, ◌-◌, ◌<◌, ◌≤◌, Bool, ◌&&◌, eqb, ltb, leb, ◌≢◌, ◌⊎◌, List, [], ◌∷◌, ◌++◌, length, get_or, sym, refl, ap, ◌∙◌, inl, inr, ⊎_elim, arith}
-use Rattle.std.specs.List.{AllByRecursion as All}
+use Rattle.std.specs.List.{AllByRecursion as Every}
 use Rattle.std.proofs.lemmas.List.{length-map}
 use Rattle.std.proofs.ByRecursion.{All-get_or}
 use Rattle.std.proofs.lemmas.Bool.{cases_lt, cases_eq, cond-false, eq-eqb, ne_eqb, le-leb, lt-leb, and_left}
@@ -20,12 +20,12 @@ use Rattle.layout.proofs.Stops.{stop_law, balance_law}
 pub start_law : StartLaw
 start_law m x = omega (arith, load_step m x)
 
-at_past : {X : Type 0} (f : ℕ → List Entry → X) (d : X) (slots : ℕ) (es : List Entry) → All (λ e. e.slot < slots) es → (s : ℕ) → slots ≤ s → at f d es s ≡ d
+at_past : {X : Type 0} (f : ℕ → List Entry → X) (d : X) (slots : ℕ) (es : List Entry) → Every (λ e. e.slot < slots) es → (s : ℕ) → slots ≤ s → at f d es s ≡ d
 unfolding at
 at_past f d slots [] a s l = refl
 at_past f d slots (e ∷ es) (g, a) s l = cond-false (eqb s e.slot) _ _ (ne_eqb s e.slot (λ z. omega arith)) ∙ at_past f d slots es a s l
 
-late_past : (r slots : ℕ) (es : List Entry) → All (λ e. e.slot < slots) es → (x : ℕ) → slots ≤ x → offset_at r es x ≡ 0
+late_past : (r slots : ℕ) (es : List Entry) → Every (λ e. e.slot < slots) es → (x : ℕ) → slots ≤ x → offset_at r es x ≡ 0
 unfolding offset_at
 late_past r slots [] a x l = refl
 late_past r slots (e ∷ es) (g, a) x l =
@@ -35,7 +35,7 @@ late_past r slots (e ∷ es) (g, a) x l =
 
 pub within_law : WithinLaw
 within_law slots r ps s h =
-    let a : All (λ e. e.slot < slots) (laid r 0 ps) = (room_law slots r ps s).0 h in
+    let a : Every (λ e. e.slot < slots) (laid r 0 ps) = (room_law slots r ps s).0 h in
     let n = to_numbers slots r ps h in
     let w = room slots (many r ps) (many_from r ps) (tails r ps s) n in
     let all : many_from r ps 0 ≡ length ps = sym (ap length (halves r ps 0 s ∙ ap (λ l. l ++ upper r ps 0) (lower_none r ps))) in

@@ -1,6 +1,6 @@
 -- From the rule to runs at their starts.
 use Rattle.std.proofs.Common.{◌≡◌, ℕ, zero, suc, ◌+◌, ◌-◌, ◌<◌, ◌≤◌, max, true, false, not, ◌&&◌, eqb, ltb, leb, ◌⊎◌, List, [], ◌∷◌, ◌++◌, map, length, get_or, take, drop, sym, refl, ap, ◌∙◌, subst, inl, inr, ⊎_elim, arith}
-use Rattle.std.specs.List.{AllByRecursion as All}
+use Rattle.std.specs.List.{AllByRecursion as Every}
 use Rattle.std.proofs.lemmas.List.{take_more, drop_more, drop_all, length-map}
 use Rattle.std.proofs.ByRecursion.{All-get_or}
 use Rattle.std.proofs.lemmas.Bool.{cases_lt, cond-true, cond-false, eq-eqb, ne_eqb, lt-ltb, le-ltb, le-leb, lt-leb, and_from, and_left, and_right}
@@ -34,7 +34,7 @@ module _ (r : ℕ) where
   after_more ps i l = ap (after 0) (take_more ps i 0 l) ∙ after_append 0 (take i ps) (get_or ps i 0 ∷ [])
 
   -- the fingerprints of one quotient lie side by side
-  after_run : (x next : ℕ) (ps : List ℕ) → All (λ p. quotient r p ≡ x) ps → 0 < length ps → after next ps ≡ max x next + length ps
+  after_run : (x next : ℕ) (ps : List ℕ) → Every (λ p. quotient r p ≡ x) ps → 0 < length ps → after next ps ≡ max x next + length ps
   after_run x next [] a l = absurd (omega arith)
   after_run x next (p ∷ []) (e, a) l = omega (arith, e)
   after_run x next (p ∷ q ∷ ps) (e, a) l = omega (arith, e, after_run x (suc (max (quotient r p) next)) (q ∷ ps) a (omega arith))
@@ -75,14 +75,14 @@ module _ (r : ℕ) where
         let k : ℕ = max (quotient r p) next in
         cond-false (eqb s k) _ _ (ne_eqb s k (λ e. omega arith)) ∙ at_under (suc k) b s (omega arith)
 
-    at_beyond : (next : ℕ) (b : List ℕ) (s : ℕ) → All (λ p. s < quotient r p) b → at f d (laid r next b) s ≡ d
+    at_beyond : (next : ℕ) (b : List ℕ) (s : ℕ) → Every (λ p. s < quotient r p) b → at f d (laid r next b) s ≡ d
     unfolding at laid
     at_beyond next [] s a = refl
     at_beyond next (p ∷ b) s (l, a) =
         let k : ℕ = max (quotient r p) next in
         cond-false (eqb s k) _ _ (ne_eqb s k (λ e. omega arith)) ∙ at_beyond (suc k) b s a
 
-    at_run : (x next : ℕ) (ps b : List ℕ) (j : ℕ) → All (λ p. quotient r p ≡ x) ps → j < length ps
+    at_run : (x next : ℕ) (ps b : List ℕ) (j : ℕ) → Every (λ p. quotient r p ≡ x) ps → j < length ps
         → at f d (laid r next (ps ++ b)) (max x next + j) ≡ f (get_or ps j 0) (laid r (suc (max x next + j)) (drop (suc j) ps ++ b))
     unfolding at laid
     at_run x next [] b j a l = absurd (omega arith)
@@ -119,12 +119,12 @@ module _ (r : ℕ) where
 
   -- ---- the views
 
-  others_beyond : (x k : ℕ) (b : List ℕ) → All (λ p. suc x ≤ quotient r p) b → others r x (laid r k b) ≡ true
+  others_beyond : (x k : ℕ) (b : List ℕ) → Every (λ p. suc x ≤ quotient r p) b → others r x (laid r k b) ≡ true
   unfolding others laid
   others_beyond x k [] a = refl
   others_beyond x k (p ∷ b) (l, a) = ap not (ne_eqb (quotient r p) x (λ e. omega arith))
 
-  others_run : (x k : ℕ) (ps b : List ℕ) (j : ℕ) → All (λ p. quotient r p ≡ x) ps → suc j < length ps → others r x (laid r k (drop (suc j) ps ++ b)) ≡ false
+  others_run : (x k : ℕ) (ps b : List ℕ) (j : ℕ) → Every (λ p. quotient r p ≡ x) ps → suc j < length ps → others r x (laid r k (drop (suc j) ps ++ b)) ≡ false
   unfolding others laid
   others_run x k ps b j a l =
       rw (drop_more ps (suc j) 0 l) (ap not (eq-eqb (quotient r (get_or ps (suc j) 0)) x (All-get_or (λ p. quotient r p ≡ x) ps (suc j) 0 l a)))
@@ -182,7 +182,7 @@ module _ (r : ℕ) where
 
   -- ---- the offset
 
-  late_beyond : (x next : ℕ) (b : List ℕ) → All (λ p. x ≤ quotient r p) b → offset_at r (laid r next b) x ≡ 0
+  late_beyond : (x next : ℕ) (b : List ℕ) → Every (λ p. x ≤ quotient r p) b → offset_at r (laid r next b) x ≡ 0
   unfolding offset_at laid
   late_beyond x next [] a = refl
   late_beyond x next (p ∷ b) (l, a) =
@@ -190,7 +190,7 @@ module _ (r : ℕ) where
       let z : bit (leb x k && ltb (quotient r p) x) ≡ 0 = cond-false (leb x k && ltb (quotient r p) x) 1 0 (and_right (leb x k) (ltb (quotient r p) x) (le-ltb (quotient r p) x l)) in
       omega (arith, z, late_beyond x (suc k) b a)
 
-  pub late : (x next : ℕ) (a b : List ℕ) → All (λ p. quotient r p < x) a → All (λ p. x ≤ quotient r p) b
+  pub late : (x next : ℕ) (a b : List ℕ) → Every (λ p. quotient r p < x) a → Every (λ p. x ≤ quotient r p) b
       → offset_at r (laid r next (a ++ b)) x + (next - x) ≡ after next a - x
   unfolding offset_at laid
   late x next [] b g h = omega (arith, late_beyond x next b h)

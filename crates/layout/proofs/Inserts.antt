@@ -1,7 +1,7 @@
 -- Sorted fingerprints with one more or one less, and their runs.
 use Rattle.std.proofs.Common.{◌≡◌, ℕ, zero, suc, ◌+◌, ◌*◌, ◌^◌, ◌<◌, ◌≤◌, Bool, true, false, cond, eqb, leb, ◌≢◌, List, [], ◌∷◌, ◌++◌, map, length, get_or, take, drop, filter, sym, refl, ap, ◌∙◌, ⊎_elim, arith}
 use lib.Pow.{split}
-use Rattle.std.specs.List.{AllByRecursion as All}
+use Rattle.std.specs.List.{AllByRecursion as Every}
 use Rattle.std.proofs.lemmas.List.{length-map}
 use Rattle.std.proofs.ByRecursion.{all_kept_by, All-get_or, All-from_get_or}
 use Rattle.std.proofs.lemmas.Bool.{cases_lt, cases_eq, cases_Bool, cond-true, cond-false, eq-eqb, ne_eqb, le-leb, lt-leb}
@@ -13,22 +13,22 @@ use Rattle.layout.proofs.Splits.{run_all}
 
 -- ---- order
 
-pub all_insert : (P : ℕ → Type 0) (p : ℕ) (ps : List ℕ) → P p → All P ps → All P (insert p ps)
+pub all_insert : (P : ℕ → Type 0) (p : ℕ) (ps : List ℕ) → P p → Every P ps → Every P (insert p ps)
 unfolding insert
 all_insert P p [] h a = (h, tt)
-all_insert P p (q ∷ qs) h (k, a) = elim (leb p q) as (λ b. All P (cond b (p ∷ q ∷ qs) (q ∷ insert p qs))) [ true ↦ (h, (k, a)) | false ↦ (k, all_insert P p qs h a) ]
+all_insert P p (q ∷ qs) h (k, a) = elim (leb p q) as (λ b. Every P (cond b (p ∷ q ∷ qs) (q ∷ insert p qs))) [ true ↦ (h, (k, a)) | false ↦ (k, all_insert P p qs h a) ]
 
-pub all_sorted : (P : ℕ → Type 0) (ps : List ℕ) → All P ps → All P (sorted ps)
+pub all_sorted : (P : ℕ → Type 0) (ps : List ℕ) → Every P ps → Every P (sorted ps)
 unfolding sorted
 all_sorted P [] a = tt
 all_sorted P (p ∷ ps) (h, a) = all_insert P p (sorted ps) h (all_sorted P ps a)
 
-pub all_remove : (P : ℕ → Type 0) (p : ℕ) (ps : List ℕ) → All P ps → All P (remove p ps)
+pub all_remove : (P : ℕ → Type 0) (p : ℕ) (ps : List ℕ) → Every P ps → Every P (remove p ps)
 unfolding remove
 all_remove P p [] a = tt
-all_remove P p (q ∷ qs) (k, a) = elim (eqb p q) as (λ b. All P (cond b qs (q ∷ remove p qs))) [ true ↦ a | false ↦ (k, all_remove P p qs a) ]
+all_remove P p (q ∷ qs) (k, a) = elim (eqb p q) as (λ b. Every P (cond b qs (q ∷ remove p qs))) [ true ↦ a | false ↦ (k, all_remove P p qs a) ]
 
-pub all_from : (p q : ℕ) (ps : List ℕ) → p ≤ q → All (λ x. q ≤ x) ps → All (λ x. p ≤ x) ps
+pub all_from : (p q : ℕ) (ps : List ℕ) → p ≤ q → Every (λ x. q ≤ x) ps → Every (λ x. p ≤ x) ps
 all_from p q [] l a = tt
 all_from p q (x ∷ ps) l (k, a) = (omega arith, all_from p q ps l a)
 
@@ -55,7 +55,7 @@ order_law p ps = (sorted_sorted ps, λ s. (sorted_insert p ps s, sorted_remove p
 
 -- ---- the runs
 
-pub insert_front : (p : ℕ) (ps : List ℕ) → All (λ x. p ≤ x) ps → insert p ps ≡ p ∷ ps
+pub insert_front : (p : ℕ) (ps : List ℕ) → Every (λ x. p ≤ x) ps → insert p ps ≡ p ∷ ps
 unfolding insert
 insert_front p [] a = refl
 insert_front p (q ∷ qs) (l, a) = rw (le-leb p q l) refl
@@ -107,7 +107,7 @@ module _ (r : ℕ) where
       ⊎_elim (λ (l : p ≡ q). eq-eqb p q l ∙ sym (eq-eqb (remainder r p) (remainder r q) (ap (remainder r) l)))
       (λ (l : p ≢ q). ne_eqb p q l ∙ sym (ne_eqb (remainder r p) (remainder r q) (λ z. l (omega (arith, whole p, whole q, ap (λ x. x * 2 ^ r) e))))) (cases_eq p q)
 
-  rems_insert : (p : ℕ) (ps : List ℕ) → All (λ q. quotient r q ≡ quotient r p) ps → map (remainder r) (insert p ps) ≡ insert (remainder r p) (map (remainder r) ps)
+  rems_insert : (p : ℕ) (ps : List ℕ) → Every (λ q. quotient r q ≡ quotient r p) ps → map (remainder r) (insert p ps) ≡ insert (remainder r p) (map (remainder r) ps)
   unfolding insert
   rems_insert p [] a = refl
   rems_insert p (q ∷ qs) (e, a) =
@@ -115,7 +115,7 @@ module _ (r : ℕ) where
       (λ b. map (remainder r) (cond b (p ∷ q ∷ qs) (q ∷ insert p qs)) ≡ cond b (remainder r p ∷ remainder r q ∷ map (remainder r) qs) (remainder r q ∷ insert (remainder r p) (map (remainder r) qs)))
       [ true ↦ refl | false ↦ ap {B = List ℕ} (λ z. remainder r q ∷ z) (rems_insert p qs a) ])
 
-  rems_remove : (p : ℕ) (ps : List ℕ) → All (λ q. quotient r q ≡ quotient r p) ps → map (remainder r) (remove p ps) ≡ remove (remainder r p) (map (remainder r) ps)
+  rems_remove : (p : ℕ) (ps : List ℕ) → Every (λ q. quotient r q ≡ quotient r p) ps → map (remainder r) (remove p ps) ≡ remove (remainder r p) (map (remainder r) ps)
   unfolding remove
   rems_remove p [] a = refl
   rems_remove p (q ∷ qs) (e, a) =
@@ -123,11 +123,11 @@ module _ (r : ℕ) where
       (λ b. map (remainder r) (cond b qs (q ∷ remove p qs)) ≡ cond b (map (remainder r) qs) (remainder r q ∷ remove (remainder r p) (map (remainder r) qs)))
       [ true ↦ refl | false ↦ ap {B = List ℕ} (λ z. remainder r q ∷ z) (rems_remove p qs a) ])
 
-  pub sorted_rems : (c : ℕ) (ps : List ℕ) → All (λ q. quotient r q ≡ c) ps → Sorted ps → Sorted (map (remainder r) ps)
+  pub sorted_rems : (c : ℕ) (ps : List ℕ) → Every (λ q. quotient r q ≡ c) ps → Sorted ps → Sorted (map (remainder r) ps)
   sorted_rems c [] a s = tt
   sorted_rems c (p ∷ ps) (e, a) (k, s) = (above ps a k, sorted_rems c ps a s)
     where
-      above : (qs : List ℕ) → All (λ q. quotient r q ≡ c) qs → All (λ q. p ≤ q) qs → All (λ x. remainder r p ≤ x) (map (remainder r) qs)
+      above : (qs : List ℕ) → Every (λ q. quotient r q ≡ c) qs → Every (λ q. p ≤ q) qs → Every (λ x. remainder r p ≤ x) (map (remainder r) qs)
       above [] b l = tt
       above (q ∷ qs) (d, b) (l, ls) = ((same_le p q (e ∙ sym d)).0 l, above qs b ls)
 
@@ -147,7 +147,7 @@ insert_at v (q ∷ qs) (suc j) (k, s) f =
     (cases_lt q v)
 
 -- a list that rises from v on and has v begins with it
-front : (v : ℕ) (l : List ℕ) (j : ℕ) → Sorted l → All (λ x. v ≤ x) l → j < length l → get_or l j 0 ≡ v → l ≡ v ∷ remove v l
+front : (v : ℕ) (l : List ℕ) (j : ℕ) → Sorted l → Every (λ x. v ≤ x) l → j < length l → get_or l j 0 ≡ v → l ≡ v ∷ remove v l
 unfolding remove
 front v [] j s a g e = absurd (omega arith)
 front v (q ∷ qs) j (k, s) (l, a) g e =

@@ -1,6 +1,6 @@
 -- One pass over fingerprints in rising order: what each of them adds to the slots.
 use Rattle.std.proofs.Common.{◌≡◌, ℕ, suc, ◌+◌, ◌-◌, ◌<◌, ◌≤◌, max, cond, not, eqb, ltb, leb, ◌≢◌, List, [], ◌∷◌, length, get_or, take, drop, sym, refl, ap, ◌∙◌, subst, ⊎_elim, arith}
-use Rattle.std.specs.List.{AllByRecursion as All}
+use Rattle.std.specs.List.{AllByRecursion as Every}
 use Rattle.std.proofs.lemmas.List.{drop_more, drop_all, take-append-drop, append-nil, get_or-take, get_or-drop, length-take, length-drop}
 use Rattle.std.proofs.ByRecursion.{All-from_get_or}
 use Rattle.std.proofs.lemmas.List.Filters.{length-filter_more}
@@ -112,10 +112,10 @@ module _ (r : ℕ) (ps : List ℕ) where
           omega (arith, high (omega arith), quotient_mono r (get_or ps i 0) (get_or ps (i + k) 0) (rises ps s i (i + k) (omega arith) in-range))
 
 -- with room for all, each quotient is below the slots
-pub quotients_below : (slots r : ℕ) (ps : List ℕ) → Sorted ps → Roomy slots r ps → All (λ p. quotient r p < slots) ps
+pub quotients_below : (slots r : ℕ) (ps : List ℕ) → Sorted ps → Roomy slots r ps → Every (λ p. quotient r p < slots) ps
 quotients_below slots r ps s room = none ps ((room_load_law slots r ps s).0 room).1
   where
-    none : (qs : List ℕ) → many_from r qs slots ≡ 0 → All (λ p. quotient r p < slots) qs
+    none : (qs : List ℕ) → many_from r qs slots ≡ 0 → Every (λ p. quotient r p < slots) qs
     none [] e = tt
     none (q ∷ qs) e = ⊎_elim
         (λ (l : quotient r q < slots). (l, none qs (ap length (sym (cond-false (leb slots (quotient r q)) (q ∷ upper r qs slots) (upper r qs slots) (lt-leb slots (quotient r q) l))) ∙ e)))

@@ -1,6 +1,6 @@
 -- The fingerprints, read back from the slots.
 use Rattle.std.proofs.Common.{◌≡◌, ℕ, zero, suc, ◌+◌, ◌-◌, ◌*◌, ◌^◌, ◌<◌, ◌≤◌, max, cond, eqb, List, [], ◌∷◌, ◌++◌, map, length, get_or, drop, sym, refl, ap, ◌∙◌, ap₂, ⊎_elim, arith, drop-cons}
-use Rattle.std.specs.List.{AllByRecursion as All}
+use Rattle.std.specs.List.{AllByRecursion as Every}
 use Rattle.std.proofs.lemmas.List.{drop_all}
 use Rattle.std.proofs.lemmas.Bool.{cases_lt, cond-true, cond-false, eq-eqb, ne_eqb}
 use Rattle.layout.specs.Load.{start}
@@ -40,11 +40,11 @@ run_read m R used rem end h c (suc n) j l g =
     ap₂ {C = List ℕ} (λ a b. a ∷ b) here rest ∙ sym (drop-cons (R c) j 0 (omega (arith, h.sizes c)))
 
 -- the fingerprints of a quotient from their remainders
-with_quotient : (r c : ℕ) (ps : List ℕ) → All (λ p. quotient r p ≡ c) ps → map (λ x. c * 2 ^ r + x) (map (remainder r) ps) ≡ ps
+with_quotient : (r c : ℕ) (ps : List ℕ) → Every (λ p. quotient r p ≡ c) ps → map (λ x. c * 2 ^ r + x) (map (remainder r) ps) ≡ ps
 with_quotient r c [] a = refl
 with_quotient r c (p ∷ ps) (e, a) = ap₂ {C = List ℕ} (λ x y. x ∷ y) (ap (λ k. k * 2 ^ r + remainder r p) (sym e) ∙ whole r p) (with_quotient r c ps a)
 
-module _ (slots r bound : ℕ) (ps : List ℕ) (s : Sorted ps) (room : Roomy slots r ps) (under : All (λ p. quotient r p < bound) ps) where
+module _ (slots r bound : ℕ) (ps : List ℕ) (s : Sorted ps) (room : Roomy slots r ps) (under : Every (λ p. quotient r p < bound) ps) where
   read_is : (n c t : ℕ) → c + n ≡ bound → max c t ≡ start (many r ps) c
       → read_from slots r (occupied_at r ps) (remainder_at r (laid r 0 ps)) (runend_at r (laid r 0 ps)) n c t ≡ upper r ps c
   unfolding read_from

@@ -1,6 +1,6 @@
 -- Room, rank and select, of the rule.
 use Rattle.std.proofs.Common.{◌≡◌, ℕ, suc, ◌+◌, ◌-◌, ◌<◌, ◌≤◌, max, Bool, true, false, cond, eqb, ltb, leb, List, [], ◌∷◌, ◌++◌, length, filter, sym, refl, ap, ◌∙◌, subst, ⊎_elim, arith}
-use Rattle.std.specs.List.{AllByRecursion as All}
+use Rattle.std.specs.List.{AllByRecursion as Every}
 use Rattle.std.proofs.lemmas.List.{length-append, append-nil}
 use Rattle.std.proofs.lemmas.Bool.{cases_lt, cases_order, cond-false, lt-leb}
 use Rattle.layout.specs.Load.{start, tally, rank, Select, Tails, Uncrowded}
@@ -33,12 +33,12 @@ room_load_law slots r ps s = (
 -- ---- the places of the rule
 
 module _ (r slots : ℕ) where
-  places_below : (next : ℕ) (ps : List ℕ) → after r next ps ≤ slots → All (λ e. e.slot < slots) (laid r next ps)
+  places_below : (next : ℕ) (ps : List ℕ) → after r next ps ≤ slots → Every (λ e. e.slot < slots) (laid r next ps)
   unfolding laid
   places_below next [] l = tt
   places_below next (p ∷ ps) l = let k : ℕ = max (quotient r p) next in (omega (arith, after_mono r (suc k) ps), places_below (suc k) ps l)
 
-  after_below : (next : ℕ) (ps : List ℕ) → next ≤ slots → All (λ e. e.slot < slots) (laid r next ps) → (after r next ps ≤ slots) × (many_from r ps slots ≡ 0)
+  after_below : (next : ℕ) (ps : List ℕ) → next ≤ slots → Every (λ e. e.slot < slots) (laid r next ps) → (after r next ps ≤ slots) × (many_from r ps slots ≡ 0)
   unfolding laid
   after_below next [] l a = (l, refl)
   after_below next (p ∷ ps) l (g, a) =
@@ -98,7 +98,7 @@ count_sorted t (p ∷ ps) =
 pub any_order_law : AnyOrderLaw
 any_order_law r ps c = count_sorted (λ p. leb c (quotient r p)) ps
 
-pub none_from : (r bound : ℕ) (ps : List ℕ) → All (λ p. quotient r p < bound) ps → (c : ℕ) → bound ≤ c → upper r ps c ≡ []
+pub none_from : (r bound : ℕ) (ps : List ℕ) → Every (λ p. quotient r p < bound) ps → (c : ℕ) → bound ≤ c → upper r ps c ≡ []
 none_from r bound [] a c l = refl
 none_from r bound (p ∷ ps) (k, a) c l = rw (lt-leb c (quotient r p) (omega arith)) (none_from r bound ps a c l)
 

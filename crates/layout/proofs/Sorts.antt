@@ -2,7 +2,7 @@
 use Rattle.std.proofs.Common.{◌≡◌, ℕ, suc, ◌+◌, ◌<◌, ◌≤◌, true, false, cond, eqb, ◌≢◌, List, [], ◌∷◌, length, filter, sym, refl, ap, ◌∙◌, ap₂, ⊎_elim, arith}
 use Rattle.std.specs.Ordering.{nat_cmp}
 use Rattle.std.specs.List.Sorted.{IsPermutation, IsSortedByKey, IsNonDecreasing}
-use Rattle.std.specs.List.{AllByRecursion as All}
+use Rattle.std.specs.List.{AllByRecursion as Every}
 use Rattle.std.proofs.lemmas.List.Sums.{length-filter}
 use Rattle.std.proofs.lemmas.List.Sorted.{sum_by-IsPermutation, IsNonDecreasingBy-from_sort}
 use Rattle.std.proofs.ByRecursion.{All-from_get_or}
@@ -18,7 +18,7 @@ count_here p q ps =
     [ true ↦ omega arith | false ↦ omega arith ]
 
 -- of a list from q on, something smaller is not there
-count_below : (p q : ℕ) (ps : List ℕ) → p < q → All (λ x. q ≤ x) ps → count p ps ≡ 0
+count_below : (p q : ℕ) (ps : List ℕ) → p < q → Every (λ x. q ≤ x) ps → count p ps ≡ 0
 count_below p q [] l a = refl
 count_below p q (x ∷ ps) l (g, a) =
     let z : bit (eqb x p) ≡ 0 = cond-false (eqb x p) 1 0 (ne_eqb x p (λ e. omega arith)) in

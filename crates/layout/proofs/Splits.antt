@@ -1,7 +1,7 @@
 -- Sorted fingerprints, cut by their quotients.
 use Rattle.std.proofs.Common.{◌≡◌, ℕ, suc, ◌<◌, ◌≤◌, Bool, true, false, eqb, ltb, leb, ◌⊎◌, List, [], ◌∷◌, ◌++◌, filter, sym, refl, ap, ◌∙◌, inl, inr, ⊎_elim, arith}
 use lib.Pow.{shr_mono}
-use Rattle.std.specs.List.{AllByRecursion as All}
+use Rattle.std.specs.List.{AllByRecursion as Every}
 use Rattle.std.proofs.lemmas.Bool.{cases_lt, cases_order, eq-eqb, ne_eqb, lt-ltb, le-ltb, le-leb, lt-leb, eqb-true, leb-true, ltb-true}
 use Rattle.std.proofs.ByRecursion.{kept_by_passes}
 use Rattle.layout.specs.Rule.{quotient, Sorted, run}
@@ -10,7 +10,7 @@ pub quotient_mono : (r p q : ℕ) → p ≤ q → quotient r p ≤ quotient r q
 unfolding quotient
 quotient_mono r p q l = shr_mono r l
 
-none_kept : (a : ℕ → Bool) (p : ℕ) (ps : List ℕ) → ((q : ℕ) → p ≤ q → a q ≡ false) → All (λ q. p ≤ q) ps → filter a ps ≡ []
+none_kept : (a : ℕ → Bool) (p : ℕ) (ps : List ℕ) → ((q : ℕ) → p ≤ q → a q ≡ false) → Every (λ q. p ≤ q) ps → filter a ps ≡ []
 none_kept a p [] h l = refl
 none_kept a p (q ∷ qs) h (l, ls) = rw (h q l) (none_kept a p qs h ls)
 
@@ -71,15 +71,15 @@ module _ (r : ℕ) where
       (λ p q e l. le-ltb (quotient r q) x (omega (arith, leb-true x (quotient r p) e, quotient_mono r p q l))) ps s
 
   -- what the parts hold
-  weaken : (P Q : ℕ → Type 0) → ((p : ℕ) → P p → Q p) → (ps : List ℕ) → All P ps → All Q ps
+  weaken : (P Q : ℕ → Type 0) → ((p : ℕ) → P p → Q p) → (ps : List ℕ) → Every P ps → Every Q ps
   weaken P Q h [] a = tt
   weaken P Q h (p ∷ ps) (a, b) = (h p a, weaken P Q h ps b)
 
-  pub run_all : (ps : List ℕ) (x : ℕ) → All (λ p. quotient r p ≡ x) (run r ps x)
+  pub run_all : (ps : List ℕ) (x : ℕ) → Every (λ p. quotient r p ≡ x) (run r ps x)
   run_all ps x = weaken _ _ (λ p e. eqb-true (quotient r p) x e) (run r ps x) (kept_by_passes (λ p. eqb (quotient r p) x) ps)
 
-  pub upper_all : (ps : List ℕ) (x : ℕ) → All (λ p. x ≤ quotient r p) (upper ps x)
+  pub upper_all : (ps : List ℕ) (x : ℕ) → Every (λ p. x ≤ quotient r p) (upper ps x)
   upper_all ps x = weaken _ _ (λ p e. leb-true x (quotient r p) e) (upper ps x) (kept_by_passes (λ p. leb x (quotient r p)) ps)
 
-  pub lower_all : (ps : List ℕ) (x : ℕ) → All (λ p. quotient r p < x) (lower ps x)
+  pub lower_all : (ps : List ℕ) (x : ℕ) → Every (λ p. quotient r p < x) (lower ps x)
   lower_all ps x = weaken _ _ (λ p e. ltb-true (quotient r p) x e) (lower ps x) (kept_by_passes (λ p. ltb (quotient r p) x) ps)

@@ -1,6 +1,6 @@
 -- What holds of the slots that the rule gives: room, rank and select, and reading back.
 use Rattle.std.specs.Prelude.{◌≡◌, ℕ, zero, suc, ◌+◌, ◌-◌, ◌*◌, ◌^◌, ◌<◌, ◌≤◌, max, cond, ◌⊎◌, List, [], ◌∷◌, ◌++◌, map, length, filter, ◌==◌, nat_eq, nat_lt, slice_index}
-use Rattle.std.specs.List.{AllByRecursion as All}
+use Rattle.std.specs.List.{AllByRecursion as Every}
 use Rattle.layout.specs.Moves.{Fit}
 use Rattle.layout.specs.Load.{load, tally, rank, Select, FirstFree, FirstIdle}
 use Rattle.layout.specs.Rule.{bit, quotient, remainder, Sorted, insert, remove, sorted, laid, used_at, remainder_at, runend_at, offset_at, many, many_from, occupied_at, Crowded, Roomy}
@@ -11,7 +11,7 @@ use Rattle.layout.specs.Runs.{remainders}
 -- no quotient is crowded just where the rule gives each fingerprint one of the slots
 abbrev pub RoomLaw : Type 0
 RoomLaw = (slots r : ℕ) (ps : List ℕ) → Sorted ps
-    → (Roomy slots r ps → All (λ e. e.slot < slots) (laid r 0 ps)) × (All (λ e. e.slot < slots) (laid r 0 ps) → Roomy slots r ps)
+    → (Roomy slots r ps → Every (λ e. e.slot < slots) (laid r 0 ps)) × (Every (λ e. e.slot < slots) (laid r 0 ps) → Roomy slots r ps)
 
 -- and just where nothing waits at the end, and no quotient is past it
 abbrev pub RoomLoadLaw : Type 0
@@ -32,7 +32,7 @@ abbrev pub AnyOrderLaw : Type 0
 AnyOrderLaw = (r : ℕ) (ps : List ℕ) (c : ℕ) → many_from r (sorted ps) c ≡ many_from r ps c
 
 abbrev pub BoundLaw : Type 0
-BoundLaw = (slots r bound : ℕ) (ps : List ℕ) → All (λ p. quotient r p < bound) ps → (c : ℕ) → bound ≤ c → Crowded slots r ps c → ⊥
+BoundLaw = (slots r bound : ℕ) (ps : List ℕ) → Every (λ p. quotient r p < bound) ps → (c : ℕ) → bound ≤ c → Crowded slots r ps c → ⊥
 
 -- ---- which slots are used
 
@@ -83,7 +83,7 @@ read_from slots r occ rem end (suc n) c s =
     (read_from slots r occ rem end n (suc c) s)
 
 abbrev pub ReadLaw : Type 0
-ReadLaw = (slots r bound : ℕ) (ps : List ℕ) → Sorted ps → Roomy slots r ps → All (λ p. quotient r p < bound) ps
+ReadLaw = (slots r bound : ℕ) (ps : List ℕ) → Sorted ps → Roomy slots r ps → Every (λ p. quotient r p < bound) ps
     → read_from slots r (occupied_at r ps) (remainder_at r (laid r 0 ps)) (runend_at r (laid r 0 ps)) bound 0 0 ≡ ps
 
 -- ---- the fingerprints as a bag

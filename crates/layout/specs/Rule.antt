@@ -1,6 +1,6 @@
 -- The layout rule: in which slot each fingerprint of a list lies, and what a slot then shows.
 use Rattle.std.specs.Prelude.{ℕ, suc, ◌+◌, ◌-◌, ◌/◌, ◌%◌, ◌^◌, ◌<◌, ◌≤◌, max, Bool, true, cond, not, ◌&&◌, leb, List, [], ◌∷◌, length, filter, ◌==◌, nat_eq, nat_le, nat_lt}
-use Rattle.std.specs.List.{AllByRecursion as All}
+use Rattle.std.specs.List.{AllByRecursion as Every}
 
 -- ---- a fingerprint, with remainders of r bits
 
@@ -14,7 +14,7 @@ remainder r p = p % 2 ^ r
 
 abbrev pub Sorted : List ℕ → Type 0
 Sorted [] = Unit {0}
-Sorted (p ∷ ps) = All (λ q. p ≤ q) ps × Sorted ps
+Sorted (p ∷ ps) = Every (λ q. p ≤ q) ps × Sorted ps
 
 -- p among sorted fingerprints, before the first that is not smaller
 unfoldable pub insert : ℕ → List ℕ → List ℕ
