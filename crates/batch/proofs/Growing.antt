@@ -4,7 +4,7 @@ use Rattle.kinds.specs.declared.kern.Pair.{Pair}
 use Rattle.kinds.specs.declared.sequence.Sequence.{Sequence}
 use Rattle.history.specs.declared.operation.Operation.{Operation}
 use Rattle.figures.specs.Lines.{Leads, lines_of}
-use Rattle.figures.proofs.Cuts.{first-line}
+use Rattle.figures.proofs.Cuts.{first_line}
 use Rattle.forms.specs.Meaning.{Meant}
 use Rattle.forms.specs.declared.command.Command.{Command}
 use Rattle.forms.specs.declared.command.Command.TheVariants as command
@@ -82,7 +82,7 @@ pub sofar_more : (text left line rest : List ℕ) (ks : Kerns) (gs : Ligatures) 
 sofar_more text left line rest ks gs ds ks' gs' ds' s h (r, m, e) =
     record {
       lines = s.lines ++ line ∷ [];
-      front = s.front ∙ ap (λ l. s.lines ++ l) (first-line left line rest h) ∙ append_assoc_one s.lines (lines_of rest) line;
+      front = s.front ∙ ap (λ l. s.lines ++ l) (first_line left line rest h) ∙ append_assoc_one s.lines (lines_of rest) line;
       sorted = push s.lines ks gs ds line r ks' gs' ds' s.sorted m e;
     }
 

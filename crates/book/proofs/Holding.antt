@@ -8,12 +8,12 @@ use Rattle.layout.specs.Format.{filter_words}
 use Rattle.layout.specs.Laws.{count}
 use Rattle.layout.proofs.Sorts.{sorted_same_counts}
 use Rattle.layout.proofs.Formats.{words_any_order}
-use Rattle.plans.specs.declared.plan.Plan.{Plan}
-use Rattle.states.specs.Meaning.{size_of}
+use Rattle.filter.specs.declared.plan.Plan.{Plan}
+use Rattle.filter.specs.Meaning.{size_of}
 use Rattle.filter.specs.Filters.{words_of, fingerprints, slots_of}
-use Rattle.states.specs.Meaning.{laid_over, cleared_over}
+use Rattle.filter.specs.Filters.{laid_over, cleared_over}
 use Rattle.filter.specs.declared.filter.Filter.{Filter}
-use Rattle.states.proofs.Held.{words_length}
+use Rattle.filter.proofs.Held.{words_length}
 use Rattle.tables.specs.Meaning.{Meaning, SameFrame}
 use Rattle.history.proofs.Entries.{Alike, alike_cons, alike_sorted, words_alike, insert_entries, remove_entries}
 use Rattle.book.specs.Books.{SameFilter}

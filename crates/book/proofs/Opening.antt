@@ -4,10 +4,11 @@ use Rattle.layout.specs.Rule.{bit, sorted, Roomy}
 use Rattle.layout.specs.Laws.{count}
 use Rattle.layout.proofs.Sorts.{count_here}
 use Rattle.layout.proofs.Bounds.{empty_law}
-use Rattle.plans.specs.Plans.{cut_to, Crowds}
-use Rattle.plans.specs.declared.plan.Plan.{Plan}
+use Rattle.filter.specs.Cuts.{cut_to}
+use Rattle.filter.specs.Filters.{Crowds}
+use Rattle.filter.specs.declared.plan.Plan.{Plan}
 use Rattle.filter.specs.Filters.{words_of, fingerprints, slots_of, Added}
-use Rattle.states.specs.Meaning.{laid_over, cleared_over}
+use Rattle.filter.specs.Filters.{laid_over, cleared_over}
 use Rattle.filter.specs.declared.filter.Filter.{Filter}
 use Rattle.tables.specs.Rows.{keys_of}
 use Rattle.tables.specs.Meaning.{Meaning}

@@ -2,10 +2,11 @@
 -- number gives each key its 64-bit number. The filter need not belong to the table.
 use Rattle.std.specs.Prelude.{◌≡◌, ℕ, ◌*◌, ◌%◌, List, [], ◌∷◌, map, Some, None, Ok, Err, Result}
 use Rattle.layout.specs.Rule.{sorted, insert, remove, Roomy}
-use Rattle.plans.specs.Plans.{cut_to, Crowds}
-use Rattle.plans.specs.declared.fault.FilterFault.TheVariants.{NoSlot}
+use Rattle.filter.specs.Cuts.{cut_to}
+use Rattle.filter.specs.Filters.{Crowds}
+use Rattle.filter.specs.declared.fault.FilterFault.TheVariants.{NoSlot}
 use Rattle.filter.specs.Filters.{words_of, fingerprints, slots_of}
-use Rattle.states.specs.Meaning.{laid_over, cleared_over}
+use Rattle.filter.specs.Filters.{laid_over, cleared_over}
 use Rattle.filter.specs.declared.filter.Filter.{Filter}
 use Rattle.tables.specs.Rows.{keys_of}
 use Rattle.tables.specs.Meaning.{Meaning, value_in, held_in, Revalued}

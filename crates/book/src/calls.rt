@@ -1,6 +1,6 @@
 //! Open, put, drop and find.
 ghost use Rattle.std.specs.Prelude.{◌≡◌, ℕ, false, is_ok};
-ghost use Rattle.plans.specs.Plans.{cut_to};
+ghost use Rattle.filter.specs.Cuts.{cut_to};
 ghost use Rattle.tables.specs.Meaning.{SameFrame};
 ghost use Rattle.history.specs.Rules.{PutRule, DropRule, FindRule};
 ghost use Rattle.book.specs.Books.{terms_of, held_by, SameFilter, PutDone, DropDone, Opened};
@@ -8,7 +8,7 @@ ghost use Rattle.book.specs.Books.{terms_of, held_by, SameFilter, PutDone, DropD
 use filter::Filter;
 use history::{BookFault, Found, Stored};
 use kinds::{Fingerprint, Kind};
-use plans::Plan;
+use filter::Plan;
 use tables::{Table, TableFault};
 
 /// The fingerprint of a key under a plan.

@@ -6,7 +6,7 @@ use gridtable::GridTable;
 use history::{Answer, Found, Operation};
 use kinds::{Fibonacci, Kern, Pair};
 use listtable::ListTable;
-use plans::Plan;
+use filter::Plan;
 use replay::{ReplayFault, replay};
 use std::io;
 use tables::{Record, Table};

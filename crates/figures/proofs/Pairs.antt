@@ -16,7 +16,7 @@ pub spaced_read : (xs rest tail : List ℕ) (v : ℕ) → Read xs v rest → res
 spaced_read xs rest tail v r e = (r.shown, r.named, r.figure, r.whole ∙ ap (λ l. r.shown ++ l) e, r.held)
 
 -- what follows the space is the same, however the figure is read
-tails : (xs rest tail ds : List ℕ) (v n : ℕ) → Spaced xs v rest → Figure ds n → xs ≡ ds ++ (32 ∷ tail) → rest ≡ tail
+pub tails : (xs rest tail ds : List ℕ) (v n : ℕ) → Spaced xs v rest → Figure ds n → xs ≡ ds ++ (32 ∷ tail) → rest ≡ tail
 tails xs rest tail ds v n (es, m, g, p, q) f e =
     let same = (same_run es ds (32 ∷ rest) (32 ∷ tail) g.digits f.digits (space_stops rest) (space_stops tail) (sym p ∙ e)).1 in
     cc

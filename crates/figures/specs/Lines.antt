@@ -1,5 +1,5 @@
 -- How a text is cut into lines.
-use Rattle.std.specs.Prelude.{◌≡◌, ℕ, ◌<◌, ◌⊎◌, List, [], ◌∷◌, ◌++◌, length, Some, None, Option, ◌≢◌, slice_index}
+use Rattle.std.specs.Prelude.{◌≡◌, ℕ, ◌<◌, cond, ◌⊎◌, List, [], ◌∷◌, ◌++◌, length, Some, None, Option, ◌==◌, ◌≢◌, slice_index}
 use Rattle.std.specs.Borrow.{Bor}
 
 -- the line has no byte 10
@@ -15,3 +15,13 @@ pub record Leads (text line rest : List ℕ) : Type 0 where
 abbrev pub Cut : List ℕ → Option (Bor (List ℕ) × Bor (List ℕ)) → Type 0
 Cut text None = text ≡ []
 Cut text (Some p) = Leads text p.0.now p.1.now
+
+-- the lines of what has one byte more in front, a byte that ends no line
+abbrev pub grown : ℕ → List (List ℕ) → List (List ℕ)
+grown c [] = (c ∷ []) ∷ []
+grown c (l ∷ ls) = (c ∷ l) ∷ ls
+
+-- the lines of a text, in order
+unfoldable pub lines_of : List ℕ → List (List ℕ)
+lines_of [] = []
+lines_of (c ∷ cs) = cond (c == 10) ([] ∷ lines_of cs) (grown c (lines_of cs))

@@ -88,8 +88,8 @@ pub fn amount(bytes: &[u8]) -> Result<i16, FigureFault>
     }
 }
 
-// A figure and the space after it; then what follows.
-fn spaced(bytes: &[u8]) -> Result<(u32, &[u8]), FigureFault>
+/// A figure and the space after it: its number, or 65,536 where that is more, and what follows.
+pub fn spaced(bytes: &[u8]) -> Result<(u32, &[u8]), FigureFault>
     ensures { MatchResult result (λ p. Spaced bytes.now p.0 p.1.now) (λ e. (e ≡ FigureFault.Unreadable) × NoSpaced bytes.now) }
 {
     match figure(bytes)? {

@@ -4,4 +4,5 @@ pub mod Laying
 pub mod Locating
 pub mod Slots
 pub mod Editing
+pub mod Cuts
 pub mod Filters

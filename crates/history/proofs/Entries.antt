@@ -8,8 +8,8 @@ use Rattle.layout.proofs.Rooms.{any_order_law}
 use Rattle.layout.proofs.Formats.{words_any_order}
 use Rattle.layout.proofs.Bounds.{bag_law}
 use Rattle.layout.proofs.Bags.{count_law}
-use Rattle.plans.specs.Plans.{Crowds}
-use Rattle.plans.specs.declared.plan.Plan.{Plan}
+use Rattle.filter.specs.Filters.{Crowds}
+use Rattle.filter.specs.declared.plan.Plan.{Plan}
 
 -- each fingerprint stands equally often in both
 abbrev pub Alike : List ℕ → List ℕ → Type 0

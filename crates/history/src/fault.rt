@@ -2,7 +2,7 @@ ghost use Rattle.std.specs.Prelude.{◌≡◌};
 ghost use Rattle.history.specs.Faults.{number_of};
 ghost use Rattle.history.specs.declared.fault.BookFault.TheVariants.{Filter, Table};
 
-use plans::FilterFault;
+use filter::FilterFault;
 use tables::TableFault;
 
 /// Why a book turns a call away: the part that refuses, and its fault.

@@ -7,7 +7,7 @@ use answers::write_fault;
 use filter::Filter;
 use kinds::{Fibonacci, Fnv1a, Kern, Ligature, Pair, Sequence};
 use listtable::ListTable;
-use plans::Plan;
+use filter::Plan;
 use sheet::{Book, Lines, do_line, lines_of};
 use std::io;
 use std::io::{Read, Write};

@@ -4,11 +4,11 @@ use Rattle.std.proofs.lemmas.Bool.{cond-true, cond-false, cases_Bool}
 use Rattle.kinds.specs.Keys.{same_key}
 use Rattle.layout.specs.Rule.{sorted}
 use Rattle.layout.specs.Laws.{count}
-use Rattle.plans.specs.Plans.{cut_to}
-use Rattle.plans.specs.declared.plan.Plan.{Plan}
-use Rattle.states.specs.Meaning.{size_of}
+use Rattle.filter.specs.Cuts.{cut_to}
+use Rattle.filter.specs.declared.plan.Plan.{Plan}
+use Rattle.filter.specs.Meaning.{size_of}
 use Rattle.filter.specs.Filters.{words_of, fingerprints, slots_of}
-use Rattle.states.specs.Meaning.{laid_over}
+use Rattle.filter.specs.Filters.{laid_over}
 use Rattle.filter.specs.declared.filter.Filter.{Filter}
 use Rattle.tables.specs.Rows.{keys_of, Apart}
 use Rattle.tables.specs.Meaning.{Meaning, SameFrame, value_in, held_in, Revalued}

@@ -2,9 +2,9 @@
 -- number gives each key its 64-bit number.
 use Rattle.std.specs.Prelude.{◌≡◌, ℕ, List, ◌∷◌, ◌++◌, map, length, None, Ok, Err, vec_items, Option, Result, Vec}
 use Rattle.layout.specs.Rule.{Roomy}
-use Rattle.plans.specs.Plans.{cut_to}
+use Rattle.filter.specs.Cuts.{cut_to}
 use Rattle.filter.specs.Filters.{words_of, slots_of}
-use Rattle.states.specs.Meaning.{laid_over}
+use Rattle.filter.specs.Filters.{laid_over}
 use Rattle.filter.specs.declared.filter.Filter.{Filter}
 use Rattle.tables.specs.Meaning.{Meaning, value_in}
 use Rattle.history.specs.History.{History, paired, Follows, Current, Lawful}

@@ -24,7 +24,7 @@ returns-in_err-glyph c =
 
 pub sequence_of-requires : goal.sequence_of-requires
 sequence_of-requires c =
-    let r = c.in_ok-row.ensures in (keeps_sound c.in_ok-row.row r.numbers r.keeps, c.if-l-le65535.true)
+    let r = c.in_ok-row.ensures in record { sound = keeps_sound c.in_ok-row.row r.numbers r.keeps; largest_bound = c.if-l-le65535.true }
 
 pub returns-in_err-sequence_of : goal.returns-in_err-sequence_of
 returns-in_err-sequence_of c =

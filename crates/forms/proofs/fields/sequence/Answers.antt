@@ -12,20 +12,20 @@ returns-in_err-row c =
 
 pub sequence_of-requires : goal.sequence_of-requires
 sequence_of-requires c =
-    let r = c.in_ok-row.ensures in (keeps_sound c.in_ok-row.field-0.0 r.numbers r.keeps, c.if-row-le65535.true)
+    let r = c.in_ok-row.ensures in record { sound = keeps_sound c.in_ok-row.field-0.0 r.numbers r.keeps; largest_bound = c.if-row-le65535.true }
 
-pub returns-in_err-sequence_of : goal.returns-in_err-sequence_of
-returns-in_err-sequence_of c =
-    let p = err_from_is_err_and c.from_residual-in_err-sequence_of.result c.from_residual-in_err-sequence_of.ensures.1 in
+pub returns-in_err-sequence_of-in_default-empty : goal.returns-in_err-sequence_of-in_default-empty
+returns-in_err-sequence_of-in_default-empty c =
+    let p = err_from_is_err_and c.from_residual-in_err-sequence_of-in_default-empty.result c.from_residual-in_err-sequence_of-in_default-empty.ensures.1 in
     let r = c.in_ok-row.ensures in
-    let told = c.in_err-sequence_of.ensures in
+    let told = c.in_err-sequence_of-in_default-empty.ensures in
     rw (p.1, p.2, told.held)
     (r.numbers, numbers_whole c.args.bytes.now _ _ r (search rules), keeps_lawful _ r.numbers r.keeps c.if-row-le65535.true, keeps_bad _ r.numbers r.keeps (sym told.taken))
 
-pub returns-in_ok-sequence_of : goal.returns-in_ok-sequence_of
-returns-in_ok-sequence_of c =
+pub returns-in_ok-sequence_of-in_default-empty : goal.returns-in_ok-sequence_of-in_default-empty
+returns-in_ok-sequence_of-in_default-empty c =
     let r = c.in_ok-row.ensures in
-    let told = c.in_ok-sequence_of.ensures in
+    let told = c.in_ok-sequence_of-in_default-empty.ensures in
     let lawful = keeps_lawful _ r.numbers r.keeps c.if-row-le65535.true in
     let same = told.held ∙ keeps_all _ r.numbers r.keeps lawful (sym told.taken) in
     rw same (numbers_whole c.args.bytes.now _ _ r (search rules), lawful)

@@ -13,19 +13,19 @@ returns-in_err-n t c =
 pub row_of-requires : goal.row_of-requires
 row_of-requires t c = let less = shorter c.args.bytes.now c.in_ok-n.rest.now c.in_ok-n.n c.in_ok-n.ensures in (omega arith, tt)
 
-pub returns-in_err-row : goal.returns-in_err-row
-returns-in_err-row t c =
-    let p = err_from_is_err_and c.from_residual-in_err-row.result c.from_residual-in_err-row.ensures.1 in
-    let told = c.in_err-row.ensures in
+pub returns-in_err-row-in-32 : goal.returns-in_err-row-in-32
+returns-in_err-row-in-32 t c =
+    let p = err_from_is_err_and c.from_residual-in_err-row-in-32.result c.from_residual-in_err-row-in-32.ensures.1 in
+    let told = c.in_err-row-in-32.ensures in
     let rest = c.in_ok-n.rest.now in
     rw (p.1, p.2)
     (told.0, no_row_more c.args.bytes.now rest _ c.in_ok-n.n c.in_ok-n.ensures (begins rest 32 (search rules) (search rules)) (goes_on rest (search rules) (search rules) (search rules)) told.1)
 
-pub returns-in_ok-row : goal.returns-in_ok-row
-returns-in_ok-row t c =
+pub returns-in_ok-row-in-32 : goal.returns-in_ok-row-in-32
+returns-in_ok-row-in-32 t c =
     let rest = c.in_ok-n.rest.now in
     rw c.behind.ensures
-    (row_more c.args.bytes.now rest _ c.in_ok-row.rest.now c.in_ok-n.n c.in_ok-row.row c.in_ok-n.ensures (begins rest 32 (search rules) (search rules)) c.in_ok-row.ensures)
+    (row_more c.args.bytes.now rest _ c.in_ok-row-in-32.rest.now c.in_ok-n.n c.in_ok-row-in-32.row c.in_ok-n.ensures (begins rest 32 (search rules) (search rules)) c.in_ok-row-in-32.ensures)
 
 pub returns-in_default : goal.returns-in_default
 returns-in_default t c =

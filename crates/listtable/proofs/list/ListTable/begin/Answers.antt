@@ -5,7 +5,7 @@ use Rattle.listtable.proofs.Lists.{apart_none}
 use Rattle.listtable.proofs.list.ListTable.begin.Goals as goal
 
 pub invariant_of-result : goal.invariant_of-result
-invariant_of-result g c = (omega arith, (apart_none c.args.records.now, tt))
+invariant_of-result g c = record { within = omega arith; once = apart_none c.args.records.now }
 
 pub returns : goal.returns
 returns g c =

@@ -1,5 +1,5 @@
 use Rattle.std.proofs.Common.{length, ap, arith, rules}
-use Rattle.figures.proofs.Cuts.{first-line, no_line}
+use Rattle.figures.proofs.Cuts.{first_line, no_line}
 use Rattle.sheet.proofs.lines.LinesIterator.next.Goals as goal
 
 pub returns-in_err-line : goal.returns-in_err-line
@@ -9,5 +9,5 @@ returns-in_err-line c =
 
 pub returns : goal.returns
 returns c =
-    let first = first-line c.args.self.now.left.now c.in_ok-line.line.now c.in_ok-line.rest.now c.in_ok-line.ensures in
+    let first = first_line c.args.self.now.left.now c.in_ok-line.line.now c.in_ok-line.rest.now c.in_ok-line.ensures in
     record { steps = first; goes = record { on = λ e. (tt, tt, omega (arith, ap length first)); keeps = search rules; rests = λ h. search rules } }

@@ -14,7 +14,7 @@ pub invariant_of-self : goal.invariant_of-self
 invariant_of-self c =
     let table = c.args.self.now in
     let t = taken table.side table.cells.now table.room c.args.key c.in-Some.place c.in-Some.ensures table.held c.free.new.held c.free.new.cells table.counted c.free.ensures.cells c.free.ensures.held in
-    (table.small, (t.room, (t.counted, tt)))
+    record { small = table.small; room = t.room; counted = t.counted }
 
 pub returns : goal.returns
 returns c =

@@ -20,7 +20,7 @@ invariant_of-self c =
     let at = chosen (in_square table.side c.args.key) (place_of table.side c.args.key) c.in-Some.place c.in-Some.ensures in
     let t = written table.side cells table.room c.args.key at.0 table.held c.args.value c.in-Some.place c.write.new.held c.write.new.cells
     (value_is c.args.value c.ranges.value) table.counted at.1 (c.write.ensures.cells ∙ ap (λ v. set cells c.in-Some.place v) (to_z-of_z w16 c.args.value c.ranges.value)) c.write.ensures.held in
-    (table.small, (t.room, (t.counted, tt)))
+    record { small = table.small; room = t.room; counted = t.counted }
 
 pub returns : goal.returns
 returns c =

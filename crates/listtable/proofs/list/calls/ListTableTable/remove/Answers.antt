@@ -6,7 +6,7 @@ pub invariant_of-self : goal.invariant_of-self
 invariant_of-self g c =
     let table = c.args.self.now in
     let t = taken_out g.K.Kind.bytes g.met.K.Kind.apart table.held table.records.now table.within table.once c.in-Some.place c.args.key c.take_out.new.held c.take_out.new.records c.in-Some.ensures c.take_out.ensures.held c.take_out.ensures.records in
-    (t.within, (t.once, tt))
+    record { within = t.within; once = t.once }
 
 pub returns : goal.returns
 returns g c =

@@ -9,7 +9,7 @@ pub invariant_of-self : goal.invariant_of-self
 invariant_of-self g c =
     let table = c.args.self.now in
     let t = overwritten g.K.Kind.bytes g.met.K.Kind.apart table.held table.records.now table.within table.once c.in-Some.place c.args.key c.args.value c.write.new.records c.in-Some.ensures c.write.ensures in
-    (t.within, (t.once, tt))
+    record { within = t.within; once = t.once }
 
 pub returns-in-Some : goal.returns-in-Some
 returns-in-Some g c =
@@ -41,7 +41,7 @@ pub invariant_of-self-2 : goal.invariant_of-self-2
 invariant_of-self-2 g c =
     let table = c.args.self.now in
     let t = appended g.K.Kind.bytes g.met.K.Kind.apart table.held table.records.now table.within table.once c.args.key c.args.value c.append.new.held c.append.new.records c.in_default.ensures (omega arith) c.append.ensures.held c.append.ensures.records in
-    (t.within, (t.once, tt))
+    record { within = t.within; once = t.once }
 
 pub returns : goal.returns
 returns g c =
