@@ -5,10 +5,9 @@ ghost use Rattle.tables.specs.Meaning.{SameFrame};
 ghost use Rattle.history.specs.Rules.{PutRule, DropRule, FindRule};
 ghost use Rattle.book.specs.Books.{terms_of, held_by, SameFilter, PutDone, DropDone, Opened};
 
-use filter::Filter;
+use filter::{Filter, Plan};
 use history::{BookFault, Found, Stored};
 use kinds::{Fingerprint, Kind};
-use filter::Plan;
 use tables::{Table, TableFault};
 
 /// The fingerprint of a key under a plan.

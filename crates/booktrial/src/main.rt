@@ -1,12 +1,11 @@
 //! Replays one list of operations on books over a list and over a grid, and prints the answers and the filter's words.
 #![tactic(auto)]
 
-use filter::Filter;
+use filter::{Filter, Plan};
 use gridtable::GridTable;
 use history::{Answer, Found, Operation};
 use kinds::{Fibonacci, Kern, Pair};
 use listtable::ListTable;
-use filter::Plan;
 use replay::{ReplayFault, replay};
 use std::io;
 use tables::{Record, Table};

@@ -4,10 +4,9 @@
 ghost use Rattle.std.specs.Prelude.{◌≡◌};
 
 use answers::write_fault;
-use filter::Filter;
+use filter::{Filter, Plan};
 use kinds::{Fibonacci, Fnv1a, Kern, Ligature, Pair, Sequence};
 use listtable::ListTable;
-use filter::Plan;
 use sheet::{Book, Lines, do_line, lines_of};
 use std::io;
 use std::io::{Read, Write};

@@ -9,7 +9,8 @@ use Rattle.std.proofs.lemmas.Bool.{cases_lt, and_from, le-leb, false≢true}
 use denote.Struct.Record.{values_one}
 use Rattle.kinds.specs.declared.sequence.Sequence.{Sequence}
 use Rattle.kinds.specs.contracts.sequence.Sequence.{struct, the_propositions}
-use Rattle.kinds.specs.Bytes.{glyph_bytes, sequence_bytes}
+use Rattle.kinds.specs.declared.kern.Pair.{Pair}
+use Rattle.kinds.specs.Bytes.{glyph_bytes, pair_bytes, sequence_bytes}
 use Rattle.kinds.specs.Keys.{same_key}
 use Rattle.kinds.specs.Sequences.{glyphs_of, two_to_four}
 
@@ -36,6 +37,14 @@ glyph_bytes_one (x ∷ xs) (y ∷ ys) e =
     let first : x ≡ y = parts_one x y high low in
     let others = glyph_bytes_one xs ys rest in
     cc
+
+-- two pairs with the same bytes are one
+pub pair_bytes_one : (p q : Pair) → pair_bytes p ≡ pair_bytes q → p ≡ q
+pair_bytes_one p q e =
+    let same = glyph_bytes_one (p.left ∷ p.right ∷ []) (q.left ∷ q.right ∷ []) e in
+    let left : p.left ≡ q.left = cc in
+    let right : p.right ≡ q.right = cc in
+    λ i. record { left = left i; right = right i }
 
 -- a sequence has as many glyphs as it says
 pub glyphs_length : (s : Sequence) → length (glyphs_of s) ≡ s.len

@@ -1,8 +1,7 @@
 ghost use Rattle.std.specs.Prelude.{◌≡◌, ℕ, ◌^◌, ◌<◌};
 ghost use Rattle.kinds.specs.Examples.{PairExamples};
 ghost use Rattle.kinds.specs.Hashes.{fnv, fibonacci, rotated};
-ghost use Rattle.kinds.specs.Hashing.{fnv_small};
-ghost use Rattle.std.proofs.Common.{rules};
+ghost use Rattle.kinds.specs.Hashing.{fnv_small, fibonacci_small};
 
 use crate::hash::fnv1a;
 use crate::kern::{Kern, Pair};
@@ -49,7 +48,7 @@ pub struct Fibonacci;
 impl Fingerprint<Kern> for Fibonacci {
     ghost number = { λ _ k. fibonacci k.left k.right };
 
-    ghost fits = { Prim.search rules };
+    ghost fits = { λ p k. fibonacci_small k.left k.right };
 
     fn fingerprint(&self, key: &Pair) -> u64 {
         let both = key.left as u32 * 65536 + key.right as u32;

@@ -1,5 +1,5 @@
 ghost use Rattle.kinds.specs.Bytes.{pair_bytes};
-ghost use Rattle.std.proofs.Common.{rules};
+ghost use Rattle.kinds.specs.Glyphs.{pair_bytes_one};
 
 use crate::key_bytes::KeyBytes;
 use crate::kind::{Kind, high, low};
@@ -21,7 +21,7 @@ impl Kind for Kern {
 
     ghost bytes = { pair_bytes };
 
-    ghost apart = { Prim.search rules };
+    ghost apart = { λ p q e. pair_bytes_one p q e };
 
     fn bytes(key: &Pair) -> KeyBytes {
         let at = [
