@@ -35,3 +35,7 @@ refused_from n (Kern ∷ ds) [] gs = refused_from (n + 1) ds [] gs
 refused_from n (Kern ∷ ds) (a ∷ ks) gs = noted n (refusal_for a) (refused_from (n + 1) ds ks gs)
 refused_from n (Ligature ∷ ds) ks [] = refused_from (n + 1) ds ks []
 refused_from n (Ligature ∷ ds) ks (a ∷ gs) = noted n (refusal_for a) (refused_from (n + 1) ds ks gs)
+
+-- A line with this destination is refused by that number or not, and leaves these answers: so it is in front of any lines, whatever its own number.
+abbrev pub Told : Destination → List (Answer ℤ) → List (Answer ℕ) → Option ℕ → List (Answer ℤ) → List (Answer ℕ) → Type 0
+Told d ks gs refusal ks' gs' = (n : ℕ) (ds : List Destination) → refused_from n (d ∷ ds) ks gs ≡ noted n refusal (refused_from (n + 1) ds ks' gs')

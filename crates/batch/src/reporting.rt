@@ -1,6 +1,6 @@
 //! Telling which lines were refused.
 ghost use Rattle.std.specs.Prelude.{◌≡◌, List, [], ◌∷◌, length, drop, IfOk};
-ghost use Rattle.batch.specs.Reports.{refusal_for, refused_from, Asked};
+ghost use Rattle.batch.specs.Reports.{refusal_for, refused_from, Asked, Told};
 
 use crate::lines::{Destination, RefusedLine};
 use history::Answer;
@@ -27,6 +27,29 @@ fn next<V: Copy>(answers: &[Answer<V>], at: usize) -> (Option<u32>, usize)
     }
 }
 
+// What becomes of a line: the number of its refusal, if it is refused, and the places of the books' next answers after it.
+fn outcome(
+    destination: Destination,
+    kerns: &[Answer<i16>],
+    ligatures: &[Answer<u16>],
+    kern: usize,
+    ligature: usize,
+) -> (Option<u32>, usize, usize)
+    ensures { Told destination (drop kern kerns.now) (drop ligature ligatures.now) result.0 (drop result.1 kerns.now) (drop result.2 ligatures.now) }
+{
+    match destination {
+        Destination::Kern => {
+            let (number, after) = next(kerns, kern);
+            (number, after, ligature)
+        }
+        Destination::Ligature => {
+            let (number, after) = next(ligatures, ligature);
+            (number, kern, after)
+        }
+        Destination::Nowhere(fault) => (Some(fault.number()), kern, ligature),
+    }
+}
+
 /// The lines that are refused, in order, by their destinations and by what each book answered to the operations that it got.
 pub fn refused_lines(
     heap: Global,
@@ -40,25 +63,21 @@ pub fn refused_lines(
     let mut kern = 0;
     let mut ligature = 0;
     for (i, destination) in lines.iter().enumerate() {
-        let number = match destination {
-            Destination::Kern => {
-                let (number, after) = next(kerns, kern);
-                kern = after;
-                number
-            }
-            Destination::Ligature => {
-                let (number, after) = next(ligatures, ligature);
-                ligature = after;
-                number
-            }
-            Destination::Nowhere(fault) => Some(fault.number()),
-        };
+        let (number, next_kern, next_ligature) = outcome(
+            *destination,
+            kerns,
+            ligatures,
+            kern,
+            ligature,
+        );
         if let Some(number) = number {
             refused.push(RefusedLine {
                 line: i + 1,
                 number,
             })?;
         }
+        kern = next_kern;
+        ligature = next_ligature;
     }
     Ok(refused)
 }
