@@ -15,6 +15,7 @@ use filter::{Filter, FilterFault, Plan, Quotient};
 use std::alloc::{AllocError, Global};
 use std::io;
 use std::io::{Read, Write};
+use std::process::ExitCode;
 
 /// Words for that many blocks, at most 16,640.
 fn blank(heap: Global, plan: Plan, blocks: u32) -> Result<Vec<u64>, AllocError>
@@ -151,10 +152,12 @@ fn explain(rt: &HostRuntime, fault: &Fault) -> io::Result<()> {
 }
 
 /// Runs the program, and says why where it stops.
-fn main(rt: HostRuntime) -> Result<(), Fault> {
-    let done = run(&rt);
-    if let Err(fault) = &done {
-        explain(&rt, fault)?;
+fn main(rt: HostRuntime) -> ExitCode {
+    match run(&rt) {
+        Ok(()) => ExitCode::SUCCESS,
+        Err(fault) => {
+            let _ = explain(&rt, &fault);
+            ExitCode::FAILURE
+        }
     }
-    done
 }

@@ -16,6 +16,7 @@ use lists::read_list;
 use pairs::distinct;
 use std::io;
 use std::io::{Read, Write};
+use std::process::ExitCode;
 
 /// Prints the words of each block on a line.
 fn print_blocks<W: Write>(out: &mut W, plan: Plan, words: &[u64]) -> Result<(), Fault> {
@@ -97,10 +98,12 @@ fn explain(rt: &HostRuntime, fault: &Fault) -> io::Result<()> {
     }
 }
 
-fn main(rt: HostRuntime) -> Result<(), Fault> {
-    let done = run(&rt);
-    if let Err(fault) = &done {
-        explain(&rt, fault)?;
+fn main(rt: HostRuntime) -> ExitCode {
+    match run(&rt) {
+        Ok(()) => ExitCode::SUCCESS,
+        Err(fault) => {
+            let _ = explain(&rt, &fault);
+            ExitCode::FAILURE
+        }
     }
-    done
 }
