@@ -1,8 +1,8 @@
 -- Refused lines, told one by one.
-use Rattle.std.proofs.Common.{◌≡◌, ℕ, ◌+◌, ◌<◌, ◌≤◌, List, [], ◌∷◌, ◌++◌, ℤ, Option, Some, None, length, drop, get_or, sym, refl, ap, ◌∙◌, subst, arith}
+use Rattle.std.proofs.Common.{◌≡◌, ℕ, ◌+◌, ◌<◌, ◌≤◌, List, [], ◌∷◌, ◌++◌, ℤ, Option, Some, None, length, drop, get_or, sym, refl, ap, ◌∙◌}
 use Rattle.std.proofs.lemmas.List.{append-nil, append_assoc, drop_more, drop_all}
 use Rattle.history.specs.declared.answer.Answer.{Answer}
-use Rattle.batch.specs.Reports.{refusal_for, Asked, noted, refused_from, Told}
+use Rattle.batch.specs.Reports.{Asked, noted, refused_from, Told}
 use Rattle.batch.specs.declared.lines.Destination.{Destination}
 use Rattle.batch.specs.declared.lines.Destination.TheVariants.{Kern, Ligature}
 use Rattle.batch.specs.declared.lines.RefusedLine.{RefusedLine}

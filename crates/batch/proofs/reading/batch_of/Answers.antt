@@ -1,4 +1,4 @@
-use Rattle.std.proofs.Common.{◌≡◌, ℕ, List, [], ℤ, vec_items, sym, subst}
+use Rattle.std.proofs.Common.{ℕ, List, [], ℤ, vec_items, sym, subst}
 use Rattle.kinds.specs.declared.kern.Pair.{Pair}
 use Rattle.kinds.specs.declared.sequence.Sequence.{Sequence}
 use Rattle.history.specs.declared.operation.Operation.{Operation}

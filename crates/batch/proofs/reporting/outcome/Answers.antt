@@ -1,4 +1,4 @@
-use Rattle.std.proofs.Common.{drop, refl, rules}
+use Rattle.std.proofs.Common.{drop, refl}
 use Rattle.batch.specs.Reports.{refused_from}
 use Rattle.batch.proofs.Tellings.{kern_told, ligature_told}
 use Rattle.batch.proofs.reporting.outcome.Goals as goal
