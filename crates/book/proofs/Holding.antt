@@ -1,16 +1,15 @@
 -- A filter that holds given fingerprints, over the words that another one had.
-use Rattle.std.proofs.Common.{◌≡◌, ℕ, ◌+◌, ◌*◌, ◌<◌, ◌≤◌, List, [], ◌∷◌, ◌++◌, length, take, drop, replicate, sym, refl, ap, ◌∙◌, subst, arith}
+use Rattle.std.proofs.Common.{◌≡◌, ℕ, List, [], ◌∷◌, ◌++◌, drop, replicate, sym, refl, ap, ◌∙◌, subst, arith}
 use lib.ListN.{length-replicate}
 use Rattle.std.proofs.lemmas.List.{take-append-drop}
 use Rattle.std.proofs.lemmas.Slice.{drop-append-drop}
-use Rattle.layout.specs.Rule.{sorted, insert, remove, Roomy}
+use Rattle.layout.specs.Rule.{sorted, insert, remove}
 use Rattle.layout.specs.Format.{filter_words}
-use Rattle.layout.specs.Laws.{count}
 use Rattle.layout.proofs.Sorts.{sorted_same_counts}
 use Rattle.layout.proofs.Formats.{words_any_order}
 use Rattle.filter.specs.declared.plan.Plan.{Plan}
 use Rattle.filter.specs.Meaning.{size_of}
-use Rattle.filter.specs.Filters.{words_of, fingerprints, slots_of}
+use Rattle.filter.specs.Filters.{words_of, fingerprints}
 use Rattle.filter.specs.Filters.{laid_over, cleared_over}
 use Rattle.filter.specs.declared.filter.Filter.{Filter}
 use Rattle.filter.proofs.Held.{words_length}

@@ -1,14 +1,13 @@
 -- Opening a book: the fingerprints of the records at the first places.
-use Rattle.std.proofs.Common.{◌≡◌, ℕ, ◌+◌, ◌*◌, ◌<◌, ◌≤◌, eqb, List, [], ◌∷◌, ◌++◌, map, length, get_or, take, drop, Some, None, Ok, Err, Option, sym, refl, ap, ◌∙◌, subst, arith, take_all}
-use Rattle.layout.specs.Rule.{bit, sorted, Roomy}
+use Rattle.std.proofs.Common.{◌≡◌, ℕ, ◌+◌, ◌*◌, ◌<◌, ◌≤◌, List, [], ◌∷◌, ◌++◌, map, length, get_or, take, drop, Some, None, Ok, Option, sym, refl, ap, ◌∙◌, subst, arith, take_all}
+use Rattle.layout.specs.Rule.{Roomy}
 use Rattle.layout.specs.Laws.{count}
 use Rattle.layout.proofs.Sorts.{count_here}
 use Rattle.layout.proofs.Bounds.{empty_law}
 use Rattle.filter.specs.Cuts.{cut_to}
 use Rattle.filter.specs.Filters.{Crowds}
 use Rattle.filter.specs.declared.plan.Plan.{Plan}
-use Rattle.filter.specs.Filters.{words_of, fingerprints, slots_of, Added}
-use Rattle.filter.specs.Filters.{laid_over, cleared_over}
+use Rattle.filter.specs.Filters.{fingerprints, slots_of, Added}
 use Rattle.filter.specs.declared.filter.Filter.{Filter}
 use Rattle.tables.specs.Rows.{keys_of}
 use Rattle.tables.specs.Meaning.{Meaning}
@@ -16,7 +15,7 @@ use Rattle.tables.specs.declared.record.Record.{Record}
 use Rattle.history.proofs.Entries.{Alike, alike_cons, roomy_alike, crowds_alike, crowds_more}
 use Rattle.history.proofs.Rolls.{numbers_free, numbers_record, numbers_split}
 use Rattle.book.specs.Books.{SameFilter, fingerprints_of}
-use Rattle.book.proofs.Holding.{Holds, holds_self, holds_more, holds_alike, holds_then, holds_none, entries_alike}
+use Rattle.book.proofs.Holding.{Holds, holds_self, holds_more, holds_then, entries_alike}
 
 -- a list with one more at its end
 count_last : (p : ℕ) (ps : List ℕ) → Alike (p ∷ ps) (ps ++ p ∷ [])

@@ -1,5 +1,5 @@
 -- Which refusals of the parts below can reach a book.
-use Rattle.std.proofs.Common.{◌≡◌, ℕ, ◌+◌, ◌%◌, ◌^◌, ◌<◌, ◌≤◌, true, false, List, ◌∷◌, is_some, Ok, Err, sym, refl, ap, ◌∙◌, mod-lt, arith, pow_pos}
+use Rattle.std.proofs.Common.{◌≡◌, ℕ, ◌+◌, ◌^◌, ◌<◌, true, false, List, ◌∷◌, is_some, Err, sym, refl, ap, ◌∙◌, mod-lt, arith, pow_pos}
 use Rattle.filter.specs.Cuts.{cut_to}
 use Rattle.filter.specs.Filters.{Crowds}
 use Rattle.filter.specs.declared.plan.Plan.{Plan}

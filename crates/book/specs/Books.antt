@@ -1,6 +1,6 @@
 -- What the calls of a book make of its filter and its table. Below, f and m are the filter and the table's meaning before a call, g and n after it;
 -- number gives each key its 64-bit number. The filter need not belong to the table.
-use Rattle.std.specs.Prelude.{◌≡◌, ℕ, ◌*◌, ◌%◌, List, [], ◌∷◌, map, Some, None, Ok, Err, Result}
+use Rattle.std.specs.Prelude.{◌≡◌, ℕ, List, [], ◌∷◌, map, Some, None, Ok, Err, Result}
 use Rattle.layout.specs.Rule.{sorted, insert, remove, Roomy}
 use Rattle.filter.specs.Cuts.{cut_to}
 use Rattle.filter.specs.Filters.{Crowds}

@@ -1,6 +1,5 @@
 -- The fields of the forms.
-use Rattle.std.proofs.Common.{◌≡◌, ℕ, ◌<◌, ◌≤◌, List, [], ◌∷◌, ◌++◌, length, codes, sym, refl, ap, ◌∙◌, subst, append-nil, arith}
-use Rattle.std.specs.List.{AllByRecursion as Every}
+use Rattle.std.proofs.Common.{◌≡◌, ℕ, ◌<◌, ◌≤◌, List, [], ◌∷◌, ◌++◌, length, codes, sym, ap, ◌∙◌, subst, append-nil, arith}
 use Rattle.figures.specs.Figures.{Figure, Spaced, NoSpaced, Whole, NoWhole}
 use Rattle.figures.proofs.Pairs.{tails}
 use Rattle.forms.specs.declared.row.Row.{Row}

@@ -1,5 +1,5 @@
 -- A line of each form, from its fields.
-use Rattle.std.proofs.Common.{◌≡◌, ℕ, ◌≤◌, List, ◌++◌, length, ℤ, Ok, Err, codes, refl, subst, ⊎_elim, arith}
+use Rattle.std.proofs.Common.{◌≡◌, ℕ, ◌≤◌, List, ◌++◌, length, ℤ, Err, codes, subst, ⊎_elim, arith}
 use Rattle.kinds.specs.declared.ligature.KeyFault.TheVariants.{BadSequence}
 use Rattle.figures.specs.declared.FigureFault.{FigureFault}
 use Rattle.figures.specs.declared.FigureFault.TheVariants.{Unreadable as NoFigure, TooLarge as Large}

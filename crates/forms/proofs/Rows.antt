@@ -5,7 +5,7 @@ use Rattle.std.proofs.lemmas.Str.Parse.{digit_from_value}
 use Rattle.figures.specs.Figures.{Figure, Stops, Read, NoFigure}
 use Rattle.figures.proofs.Runs.{same_run, space_stops}
 use Rattle.forms.specs.declared.row.Row.{Row}
-use Rattle.forms.specs.Rows.{Series, Numbers, Ends, top, kept, one, longer, first_five, Keeps, Rowed, NoRow}
+use Rattle.forms.specs.Rows.{Series, Numbers, Ends, top, kept, one, longer, Keeps, Rowed, NoRow}
 
 -- what follows the space after a figure is shorter
 pub shorter : (xs rest : List ℕ) (v : ℕ) → Read xs v rest → length (take (length rest - 1) (drop 1 rest)) < length xs

@@ -1,11 +1,11 @@
 -- Single cells, and the cells that are freed one by one.
-use Rattle.std.proofs.Common.{◌≡◌, ℕ, ◌+◌, ◌/◌, ◌%◌, ◌^◌, ◌<◌, ◌≤◌, Bool, true, false, cond, ◌&&◌, List, [], ◌∷◌, ◌++◌, length, get_or, drop, set, replicate, ℤ, pos, negsuc, Some, None, Option, sym, refl, ap, ◌∙◌, arith, w16, SFits}
+use Rattle.std.proofs.Common.{◌≡◌, ℕ, ◌+◌, ◌/◌, ◌%◌, ◌<◌, Bool, true, false, cond, ◌&&◌, List, [], ◌∷◌, ◌++◌, length, get_or, drop, set, replicate, ℤ, pos, negsuc, Some, None, sym, refl, ap, ◌∙◌, arith, w16, SFits}
 use Rattle.std.proofs.lemmas.List.{append_assoc, drop_more, set_at, replicate_more, length-replicate}
 use Rattle.std.proofs.lemmas.Bool.{le-leb}
 use Rattle.kinds.specs.declared.kern.Pair.{Pair}
 use Rattle.kinds.specs.Bytes.{pair_bytes}
 use Rattle.tables.proofs.Options.{none_some, some_one}
-use Rattle.gridtable.specs.Grids.{free_cell, value_of}
+use Rattle.gridtable.specs.Grids.{value_of}
 
 -- a value of 16 bits is the value of its cell
 pub value_is : (v : ℤ) → SFits w16 v → value_of v ≡ Some v

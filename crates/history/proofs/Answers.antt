@@ -1,6 +1,5 @@
 -- The rules do not see in which order the entries stand.
-use Rattle.std.proofs.Common.{◌≡◌, ℕ, ◌<◌, ◌≤◌, Bool, true, false, List, ◌∷◌, is_some, Ok, Err, Result, sym, refl, ap, ◌∙◌, subst, arith}
-use Rattle.layout.specs.Laws.{count}
+use Rattle.std.proofs.Common.{◌≡◌, Bool, true, false, ◌∷◌, is_some, Ok, Err, Result, sym, ap, ◌∙◌, arith}
 use Rattle.filter.specs.declared.fault.FilterFault.TheVariants.{BadPlan, WideFingerprint, NoSlot, NoSuchFingerprint}
 use Rattle.tables.specs.declared.fault.TableFault.TheVariants.{ForeignGlyph, TableFull, NotHeld}
 use Rattle.history.specs.declared.operation.Operation.{Operation}

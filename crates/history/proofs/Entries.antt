@@ -1,5 +1,5 @@
 -- Lists of fingerprints that differ in order alone: crowding, sorting and words do not see it.
-use Rattle.std.proofs.Common.{◌≡◌, ℕ, ◌+◌, ◌-◌, ◌<◌, ◌≤◌, Bool, true, false, cond, eqb, leb, List, [], ◌∷◌, ◌++◌, length, filter, sym, refl, ap, ◌∙◌, subst, arith, length-append}
+use Rattle.std.proofs.Common.{◌≡◌, ℕ, ◌+◌, ◌-◌, ◌<◌, ◌≤◌, true, false, cond, eqb, leb, List, [], ◌∷◌, ◌++◌, length, filter, sym, ap, ◌∙◌, subst, arith}
 use Rattle.layout.specs.Rule.{bit, quotient, sorted, insert, remove, many_from, Crowded, Roomy}
 use Rattle.layout.specs.Format.{filter_words}
 use Rattle.layout.specs.Laws.{count}

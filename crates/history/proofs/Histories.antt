@@ -1,5 +1,5 @@
 -- The law over a history, and one event more.
-use Rattle.std.proofs.Common.{◌≡◌, ℕ, ◌+◌, ◌<◌, ◌≤◌, ◌⊎◌, List, [], ◌∷◌, ◌++◌, map, length, get_or, take, is_some, Some, None, Option, sym, refl, ap, ◌∙◌, subst, inl, inr, ⊎_elim, arith, length-append}
+use Rattle.std.proofs.Common.{◌≡◌, ℕ, ◌+◌, ◌<◌, ◌⊎◌, List, [], ◌∷◌, ◌++◌, length, get_or, take, is_some, Some, None, Option, sym, refl, ap, ◌∙◌, subst, inl, inr, ⊎_elim, arith, length-append}
 use Rattle.std.proofs.lemmas.List.{take_more, length-take-le}
 use Rattle.layout.specs.Rule.{bit}
 use Rattle.history.specs.declared.operation.Operation.{Operation}
@@ -7,7 +7,7 @@ use Rattle.history.specs.declared.operation.Operation.TheVariants.{Put, Drop, Fi
 use Rattle.history.specs.declared.answer.Found.TheVariants as found
 use Rattle.history.specs.declared.answer.Answer.{Answer}
 use Rattle.history.specs.declared.answer.Answer.TheVariants.{Kept, Changed, Dropped, Found, Refused}
-use Rattle.history.specs.Rules.{Terms, Holdings, Rule}
+use Rattle.history.specs.Rules.{Terms, Rule}
 use Rattle.history.specs.History.{Event, History, paired, Decides, Untouched, Follows, times, Current, holding, Due, Answered, Lawful}
 use Rattle.history.proofs.Keys.{one_key, length_same, numbers_same, number_there}
 use Rattle.history.proofs.Answers.{rule_same}

@@ -1,10 +1,10 @@
 -- The keys of a table, and their fingerprints, after a set or a removal.
-use Rattle.std.proofs.Common.{◌≡◌, ℕ, suc, ◌+◌, ◌<◌, ◌≤◌, Bool, true, false, cond, ◌⊎◌, List, [], ◌∷◌, ◌++◌, map, length, get_or, take, drop, is_some, Some, None, Option, sym, refl, ap, ◌∙◌, subst, inl, inr, arith}
+use Rattle.std.proofs.Common.{◌≡◌, ℕ, suc, ◌+◌, ◌<◌, ◌≤◌, Bool, true, false, cond, ◌⊎◌, List, [], ◌∷◌, ◌++◌, map, length, get_or, take, drop, is_some, Some, None, Option, sym, refl, ap, ◌∙◌, inl, inr, arith}
 use Rattle.std.proofs.lemmas.List.{take_more, take-append-drop, map-append}
 use Rattle.std.proofs.lemmas.Bool.{cases_lt}
 use Rattle.kinds.specs.Keys.{same_key}
 use Rattle.layout.specs.Rule.{bit}
-use Rattle.tables.specs.Rows.{lookup, count, keys_of, Apart, Twice}
+use Rattle.tables.specs.Rows.{lookup, count, keys_of, Apart}
 use Rattle.tables.specs.Meaning.{Meaning, Revalued}
 use Rattle.tables.specs.declared.record.Record.{Record}
 use Rattle.history.specs.History.{times, Current}

@@ -1,5 +1,5 @@
 -- Two lists in which each thing stands equally often weigh the same, whatever each thing weighs.
-use Rattle.std.proofs.Common.{◌≡◌, ℕ, ◌+◌, ◌<◌, Bool, true, false, cond, List, [], ◌∷◌, length, sym, refl, ap, ◌∙◌, arith}
+use Rattle.std.proofs.Common.{◌≡◌, ℕ, ◌+◌, ◌<◌, Bool, true, false, cond, List, [], ◌∷◌, length, refl, ap, ◌∙◌, arith}
 use Rattle.layout.specs.Rule.{bit}
 
 unfoldable pub weigh : {X : Type 0} → (X → ℕ) → List X → ℕ

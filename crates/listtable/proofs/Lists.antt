@@ -1,5 +1,5 @@
 -- What the calls on a list make of its meaning.
-use Rattle.std.proofs.Common.{◌≡◌, ℕ, ◌+◌, ◌-◌, ◌<◌, ◌≤◌, Bool, true, false, cond, ◌⊎◌, List, length, get_or, set, replicate, is_some, Some, None, Err, Option, sym, refl, ap, ◌∙◌, subst, inl, inr, arith}
+use Rattle.std.proofs.Common.{◌≡◌, ℕ, ◌+◌, ◌-◌, ◌<◌, ◌≤◌, true, false, ◌⊎◌, List, length, get_or, set, is_some, Some, None, Err, Option, sym, refl, ap, ◌∙◌, subst, inl, inr, arith}
 use Rattle.std.proofs.lemmas.List.{length-set}
 use Rattle.std.proofs.lemmas.Bool.{cases_eq, cases_lt}
 use Rattle.kinds.specs.Keys.{same_key}
@@ -8,11 +8,11 @@ use Rattle.tables.specs.Rows.{lookup, Apart}
 use Rattle.tables.specs.declared.fault.TableFault.TheVariants.{TableFull}
 use Rattle.tables.specs.Meaning.{SameFrame, Revalued, SetDone}
 use Rattle.tables.proofs.Options.{none_some, some_one, of_none, of_some, same_is, differ_from}
-use Rattle.tables.proofs.Lookups.{Absent, Only, only_held, only_absent, absent_lookup, lookup_absent, lookup_held}
+use Rattle.tables.proofs.Lookups.{only_held, only_absent, absent_lookup, lookup_absent, lookup_held}
 use Rattle.tables.proofs.Changes.{apart_set, revalued_set, apart_taken, revalued_taken}
 use Rattle.listtable.specs.Lists.{list_capacity, places_of, list_meaning, beyond_list, Holds, PlaceOf}
 use Rattle.listtable.specs.Propers.{length_places, count_places}
-use Rattle.listtable.proofs.Places.{at_held, at_read, at_free, none_held, same_length, places_write, places_append, places_fewer, beyond_write}
+use Rattle.listtable.proofs.Places.{at_held, at_read, at_free, same_length, places_write, places_append, places_fewer, beyond_write}
 
 pub apart_none : {K V : Type 0} (rs : List (Record K V)) → Apart (places_of 0 rs)
 apart_none rs t = none_some t.r (sym (at_free 0 rs t.i (omega arith) (omega arith)) ∙ t.first)

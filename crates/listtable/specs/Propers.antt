@@ -1,9 +1,9 @@
 -- Why a list is a proper table: a proof, for the table's ghost member; nothing else has to be read here.
-use Rattle.std.specs.Prelude.{◌≡◌, ℕ, ◌+◌, ◌-◌, ◌<◌, ◌≤◌, List, [], ◌∷◌, ◌++◌, map, length, get_or, take, set, replicate, Some, None, Option, refl}
-use Rattle.std.proofs.Common.{sym, ap, subst, ◌∙◌, arith}
+use Rattle.std.specs.Prelude.{◌≡◌, ℕ, ◌-◌, ◌≤◌, List, length, take, replicate, None, refl}
+use Rattle.std.proofs.Common.{arith}
 use Rattle.std.proofs.lemmas.List.{length-append, length-map, length-take-le, length-replicate}
 use Rattle.tables.specs.declared.record.Record.{Record}
-use Rattle.tables.specs.Rows.{lookup, count, Apart}
+use Rattle.tables.specs.Rows.{count, Apart}
 use Rattle.tables.specs.Meaning.{Proper}
 use Rattle.tables.proofs.Counts.{count_held, count_free}
 use Rattle.listtable.specs.Lists.{list_capacity, places_of, list_meaning}

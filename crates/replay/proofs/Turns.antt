@@ -1,5 +1,5 @@
 -- One operation more: what it makes of a book whose filter holds the fingerprints of the table's keys.
-use Rattle.std.proofs.Common.{◌≡◌, ℕ, ◌+◌, ◌*◌, ◌<◌, ◌≤◌, Bool, true, false, cond, ◌⊎◌, List, [], ◌∷◌, ◌++◌, map, length, drop, is_some, Some, None, Ok, Err, Option, sym, refl, ap, ◌∙◌, subst, inl, inr, ⊎_elim, arith}
+use Rattle.std.proofs.Common.{◌≡◌, ℕ, ◌*◌, Bool, true, false, List, ◌∷◌, ◌++◌, map, drop, Some, None, Option, sym, refl, ap, ◌∙◌, subst, ⊎_elim}
 use Rattle.std.proofs.lemmas.Bool.{cond-true, cond-false, cases_Bool}
 use Rattle.kinds.specs.Keys.{same_key}
 use Rattle.layout.specs.Rule.{sorted}
@@ -7,13 +7,13 @@ use Rattle.layout.specs.Laws.{count}
 use Rattle.filter.specs.Cuts.{cut_to}
 use Rattle.filter.specs.declared.plan.Plan.{Plan}
 use Rattle.filter.specs.Meaning.{size_of}
-use Rattle.filter.specs.Filters.{words_of, fingerprints, slots_of}
+use Rattle.filter.specs.Filters.{words_of, fingerprints}
 use Rattle.filter.specs.Filters.{laid_over}
 use Rattle.filter.specs.declared.filter.Filter.{Filter}
 use Rattle.tables.specs.Rows.{keys_of, Apart}
-use Rattle.tables.specs.Meaning.{Meaning, SameFrame, value_in, held_in, Revalued}
+use Rattle.tables.specs.Meaning.{Meaning, SameFrame, value_in, Revalued}
 use Rattle.history.specs.Rules.{Terms, Rule}
-use Rattle.history.specs.History.{Event, History, Decides, Follows, times, Current, holding, Answered, Lawful}
+use Rattle.history.specs.History.{History, Current, holding, Lawful}
 use Rattle.history.specs.declared.operation.Operation.{Operation}
 use Rattle.history.specs.declared.operation.Operation.TheVariants.{Put, Drop, Find}
 use Rattle.history.specs.declared.answer.Answer.{Answer}
@@ -22,7 +22,7 @@ use Rattle.history.proofs.Entries.{Alike, words_alike}
 use Rattle.history.proofs.Keys.{same_is, same_refl, numbers_same}
 use Rattle.history.proofs.Rolls.{length_keys, current_keys, numbers_changed, numbers_new, numbers_dropped}
 use Rattle.history.proofs.Answers.{rule_same}
-use Rattle.history.proofs.Histories.{Step, follows_push, answered, lawful_push}
+use Rattle.history.proofs.Histories.{Step}
 use Rattle.book.specs.Books.{terms_of, held_by, fingerprints_of, SameFilter}
 use Rattle.replay.specs.Replays.{Done}
 use Rattle.book.proofs.Holding.{frame_self, Holds, holds_alike, holds_more, holds_less, holds_own, holds_then, entries_alike}

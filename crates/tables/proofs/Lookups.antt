@@ -1,9 +1,9 @@
 -- What is looked up, by the places that hold the key.
-use Rattle.std.proofs.Common.{◌≡◌, ℕ, zero, suc, Bool, true, false, cond, ◌⊎◌, List, [], ◌∷◌, get_or, is_some, Some, None, Option, sym, refl, ap, ◌∙◌, subst, inl, inr}
+use Rattle.std.proofs.Common.{◌≡◌, ℕ, zero, suc, Bool, true, false, cond, ◌⊎◌, List, [], ◌∷◌, get_or, Some, None, Option, sym, refl, ap, ◌∙◌, inl, inr}
 use Rattle.kinds.specs.Keys.{same_key}
 use Rattle.tables.specs.declared.record.Record.{Record}
 use Rattle.tables.specs.Rows.{lookup, Apart}
-use Rattle.tables.proofs.Options.{none_some, some_one, value_in, Of, same_is, same_refl, same_from, differ_from}
+use Rattle.tables.proofs.Options.{none_some, some_one, value_in, Of, same_is, differ_from}
 
 -- a place that holds the record
 pub record Stands {K V : Type 0} (rows : List (Option (Record K V))) (r : Record K V) : Type 0 where

@@ -1,4 +1,4 @@
-use Rattle.std.proofs.Common.{suc, ◌-◌, ◌<◌, sym, subst, arith, rules}
+use Rattle.std.proofs.Common.{suc, ◌<◌, sym, subst, arith, rules}
 use Rattle.std.proofs.lemmas.Result.{err_from_is_err_and}
 use Rattle.figures.specs.Amounts.{Amount, Within}
 use Rattle.figures.proofs.Runs.{begins, not_begun}

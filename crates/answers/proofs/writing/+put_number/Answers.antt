@@ -1,4 +1,4 @@
-use Rattle.std.proofs.Common.{◌≡◌, ◌+◌, ◌/◌, ◌^◌, ◌<◌, ◌≤◌, length, set, decimal, sym, refl, ap, ◌∙◌, arith, rules}
+use Rattle.std.proofs.Common.{◌+◌, sym, ap, arith, rules}
 use Rattle.answers.proofs.Lays.{length_one, length_step, laid_one, laid_step}
 use Rattle.answers.proofs.writing.+put_number.Goals as goal
 

@@ -1,4 +1,4 @@
-use Rattle.std.proofs.Common.{◌≡◌, ◌+◌, ◌++◌, length, codes, decimal, sym, refl, ap, ◌∙◌, arith, length-append, w32, SFits, rules}
+use Rattle.std.proofs.Common.{◌≡◌, ◌+◌, ◌++◌, length, codes, decimal, sym, ap, ◌∙◌, arith, length-append, w32, SFits, rules}
 use Rattle.std.specs.Fmt.{signed_decimal}
 use Rattle.answers.specs.Laid.{laid}
 use Rattle.answers.specs.Texts.{said}

@@ -1,7 +1,6 @@
-use Rattle.std.proofs.Common.{◌≡◌, true, [], ◌∷◌, length, pos, nat_abs, decimal, sym, refl, ap, ◌∙◌, arith, w32, rules}
+use Rattle.std.proofs.Common.{◌≡◌, true, [], ◌∷◌, length, pos, nat_abs, decimal, sym, ap, ◌∙◌, arith, w32, rules}
 use lib.Signed.{lt_z}
 use Rattle.std.proofs.lemmas.Int.{to_z-of_z}
-use Rattle.std.specs.Fmt.{signed_decimal}
 use Rattle.answers.specs.Laid.{laid}
 use Rattle.answers.proofs.Lays.{then_laid, signed_minus}
 use Rattle.answers.proofs.writing.put_value.Goals as goal

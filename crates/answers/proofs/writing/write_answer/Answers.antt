@@ -1,6 +1,6 @@
-use Rattle.std.proofs.Common.{◌≡◌, ◌+◌, ◌≤◌, [], ◌∷◌, ◌++◌, length, drop, codes, decimal, ap, ◌∙◌, arith, length-append, rules}
+use Rattle.std.proofs.Common.{◌≡◌, ◌+◌, [], ◌∷◌, ◌++◌, length, drop, codes, decimal, ap, ◌∙◌, arith, length-append, rules}
 use Rattle.answers.specs.Laid.{laid}
-use Rattle.answers.specs.Texts.{said, text_for, answer_line}
+use Rattle.answers.specs.Texts.{text_for, answer_line}
 use Rattle.answers.proofs.Lays.{then_laid, word_short}
 use Rattle.answers.proofs.writing.write_answer.Goals as goal
 

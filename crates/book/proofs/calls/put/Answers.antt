@@ -1,9 +1,9 @@
-use Rattle.std.proofs.Common.{◌≡◌, ℕ, ◌<◌, ◌≤◌, true, false, ◌∷◌, is_some, Ok, Err, sym, refl, ap, ◌∙◌, subst, arith}
+use Rattle.std.proofs.Common.{◌≡◌, ℕ, ◌<◌, ◌≤◌, is_some, Ok, Err, sym, refl, ap, ◌∙◌, subst, arith}
 use Rattle.std.proofs.lemmas.Result.{err_from_is_err_and}
 use Rattle.filter.specs.Cuts.{cut_to}
 use Rattle.filter.specs.declared.fault.FilterFault.TheVariants.{NoSlot}
 use Rattle.filter.specs.Filters.{Added}
-use Rattle.tables.specs.Meaning.{value_in, held_in}
+use Rattle.tables.specs.Meaning.{held_in}
 use Rattle.history.specs.declared.fault.BookFault.TheVariants.{Filter}
 use Rattle.book.proofs.Refusals.{add_refused, set_accepted, set_held, cut_by}
 use Rattle.book.proofs.Holding.{same_self, frame_self}

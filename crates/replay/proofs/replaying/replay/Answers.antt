@@ -1,4 +1,4 @@
-use Rattle.std.proofs.Common.{◌≡◌, ℕ, ◌+◌, ◌<◌, true, false, length, get_or, take, Err, vec_items, sym, refl, ap, ◌∙◌, subst, arith, length-append, take_all, rules}
+use Rattle.std.proofs.Common.{◌≡◌, ℕ, take, Err, vec_items, sym, refl, ap, ◌∙◌, subst, arith, length-append, take_all, rules}
 use Rattle.std.proofs.lemmas.Result.{err_from_is_err_and}
 use Rattle.tables.specs.Rows.{keys_of}
 use Rattle.tables.specs.Meaning.{value_in}

@@ -1,4 +1,4 @@
-use Rattle.std.proofs.Common.{◌≡◌, Some, None, sym, refl, ap, ◌∙◌, subst, arith}
+use Rattle.std.proofs.Common.{sym, ◌∙◌, subst}
 use Rattle.gridtable.specs.Grids.{HeldPlace}
 use Rattle.gridtable.proofs.Squares.{found_below, found_value, missed_value, no_value}
 use Rattle.gridtable.proofs.grid.GridTable.held_place.Goals as goal

@@ -1,4 +1,4 @@
-use Rattle.std.proofs.Common.{◌≡◌, set, ap, ◌∙◌, arith}
+use Rattle.std.proofs.Common.{set, ap, ◌∙◌, arith}
 use Rattle.gridtable.specs.Grids.{free_cell}
 use Rattle.gridtable.proofs.Cells.{fill_more}
 use Rattle.gridtable.proofs.grid.calls.clear.Goals as goal

@@ -1,5 +1,5 @@
 use Rattle.std.proofs.Common.{true, length, refl, ap, arith}
-use Rattle.listtable.specs.Lists.{list_capacity, list_meaning}
+use Rattle.listtable.specs.Lists.{list_capacity}
 use Rattle.listtable.proofs.Places.{none_held}
 use Rattle.listtable.proofs.Lists.{apart_none}
 use Rattle.listtable.proofs.list.ListTable.begin.Goals as goal

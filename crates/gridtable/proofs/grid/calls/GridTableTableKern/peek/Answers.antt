@@ -1,4 +1,4 @@
-use Rattle.std.proofs.Common.{◌≡◌, Some, sym, ap, ◌∙◌, arith, w16, SFits, rules}
+use Rattle.std.proofs.Common.{Some, sym, ap, ◌∙◌, arith, w16, SFits, rules}
 use Rattle.std.proofs.lemmas.Int.{to_z-of_z}
 use Rattle.gridtable.specs.Grids.{pair_at, row_of}
 use Rattle.gridtable.specs.Propers.{row_at, row_past, row_column}

@@ -1,4 +1,3 @@
-use Rattle.std.proofs.Common.{arith}
 use Rattle.listtable.proofs.Lists.{looked_at}
 use Rattle.listtable.proofs.list.calls.ListTableTable.look.Goals as goal
 
