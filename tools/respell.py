@@ -15,7 +15,7 @@ import subprocess
 import sys
 
 TOKEN = re.compile(r"[^\s(){}\[\],;.:\"@]+")
-DEFINED = re.compile(r"^\s*(?:(?:abbrev|unfoldable|opaque|pub|private)\s+)*(?:pub\s+)?([^\s(){}\[\],;.:\"@]+)\s+:\s+(.*)$")
+DEFINED = re.compile(r"^\s*(?:(?:abbrev|unfoldable|opaque|pub|private)\s+)*(?:pub\s+)?([^\s(){}\[\],;.:\"@]+)\s+:(?:\s+(.*))?$")
 RECORD = re.compile(r"^\s*(?:pub\s+)?(?:record|data)\s+([^\s(){}\[\],;.:\"@]+)")
 FIELD = re.compile(r"^\s+pub\s+([^\s(){}\[\],;.:\"@]+)\s+:")
 # Names that would fall together with another item's.
@@ -77,7 +77,7 @@ def names(fs):
                 continue
             m = DEFINED.match(line.rstrip("\n"))
             if m and not m[1].startswith("◌") and m[1] not in ("module", "where", "let", "in", "use"):
-                found.setdefault(m[1], (camel(m[1]) if is_type(m[2]) else snake(m[1]), f))
+                found.setdefault(m[1], (camel(m[1]) if is_type(m[2] or "") else snake(m[1]), f))
     found = {a: (OTHERWISE.get(a, b[0]), b[1]) for a, b in found.items()}
     return {a: b for a, b in found.items() if a != b[0] and re.match(r"[A-Za-z]", a)}
 

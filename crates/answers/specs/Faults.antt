@@ -1,7 +1,7 @@
 -- The numbers of the refusals.
 use Rattle.std.specs.Prelude.{ℕ}
-use Rattle.history.specs.Faults.{number_of as bookNumber}
-use Rattle.forms.specs.Faults.{number_of as lineNumber}
+use Rattle.history.specs.Faults.{number_of as book_number}
+use Rattle.forms.specs.Faults.{number_of as line_number}
 use Rattle.answers.specs.declared.fault.BufferFault.{BufferFault}
 use Rattle.answers.specs.declared.fault.BufferFault.TheVariants.{ShortBuffer}
 use Rattle.answers.specs.declared.fault.Refusal.{Refusal}
@@ -14,5 +14,5 @@ buffer_number ShortBuffer = 52
 abbrev pub number_of : Refusal → ℕ
 number_of LongSheet = 54
 number_of (Buffer f) = buffer_number f
-number_of (Line f) = lineNumber f
-number_of (Book f) = bookNumber f
+number_of (Line f) = line_number f
+number_of (Book f) = book_number f

@@ -1,9 +1,9 @@
 -- Which lines are refused.
 use Rattle.std.specs.Prelude.{◌≡◌, ℕ, ◌+◌, List, [], ◌∷◌, ℤ, Some, None, Option}
-use Rattle.history.specs.Faults.{number_of as bookNumber}
+use Rattle.history.specs.Faults.{number_of as book_number}
 use Rattle.history.specs.declared.answer.Answer.{Answer}
 use Rattle.history.specs.declared.answer.Answer.TheVariants as answer
-use Rattle.forms.specs.Faults.{number_of as lineNumber}
+use Rattle.forms.specs.Faults.{number_of as line_number}
 use Rattle.batch.specs.declared.lines.Destination.{Destination}
 use Rattle.batch.specs.declared.lines.Destination.TheVariants.{Kern, Ligature, Nowhere}
 use Rattle.batch.specs.declared.lines.RefusedLine.{RefusedLine}
@@ -14,7 +14,7 @@ refusal_for answer.Kept = None
 refusal_for answer.Changed = None
 refusal_for answer.Dropped = None
 refusal_for (answer.Found f) = None
-refusal_for (answer.Refused f) = Some (bookNumber f)
+refusal_for (answer.Refused f) = Some (book_number f)
 
 -- the refusal of the next answer, if there is one, and the answers after it
 abbrev pub Asked : {V : Type 0} → List (Answer V) → Option ℕ → List (Answer V) → Type 0
@@ -30,7 +30,7 @@ noted n (Some f) more = record { line = n; number = f } ∷ more
 -- if that is a refusal.
 unfoldable pub refused_from : ℕ → List Destination → List (Answer ℤ) → List (Answer ℕ) → List RefusedLine
 refused_from n [] ks gs = []
-refused_from n (Nowhere f ∷ ds) ks gs = record { line = n; number = lineNumber f } ∷ refused_from (n + 1) ds ks gs
+refused_from n (Nowhere f ∷ ds) ks gs = record { line = n; number = line_number f } ∷ refused_from (n + 1) ds ks gs
 refused_from n (Kern ∷ ds) [] gs = refused_from (n + 1) ds [] gs
 refused_from n (Kern ∷ ds) (a ∷ ks) gs = noted n (refusal_for a) (refused_from (n + 1) ds ks gs)
 refused_from n (Ligature ∷ ds) ks [] = refused_from (n + 1) ds ks []

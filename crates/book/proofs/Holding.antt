@@ -9,8 +9,7 @@ use Rattle.layout.proofs.Sorts.{sorted_same_counts}
 use Rattle.layout.proofs.Formats.{words_any_order}
 use Rattle.filter.specs.declared.plan.Plan.{Plan}
 use Rattle.filter.specs.Meaning.{size_of}
-use Rattle.filter.specs.Filters.{words_of, fingerprints}
-use Rattle.filter.specs.Filters.{laid_over, cleared_over}
+use Rattle.filter.specs.Filters.{words_of, fingerprints, laid_over, cleared_over}
 use Rattle.filter.specs.declared.filter.Filter.{Filter}
 use Rattle.filter.proofs.Held.{words_length}
 use Rattle.tables.specs.Meaning.{Meaning, SameFrame}

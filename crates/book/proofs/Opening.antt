@@ -5,9 +5,8 @@ use Rattle.layout.specs.Laws.{count}
 use Rattle.layout.proofs.Sorts.{count_here}
 use Rattle.layout.proofs.Bounds.{empty_law}
 use Rattle.filter.specs.Cuts.{cut_to}
-use Rattle.filter.specs.Filters.{Crowds}
+use Rattle.filter.specs.Filters.{Crowds, fingerprints, slots_of, Added}
 use Rattle.filter.specs.declared.plan.Plan.{Plan}
-use Rattle.filter.specs.Filters.{fingerprints, slots_of, Added}
 use Rattle.filter.specs.declared.filter.Filter.{Filter}
 use Rattle.tables.specs.Rows.{keys_of}
 use Rattle.tables.specs.Meaning.{Meaning}
@@ -67,8 +66,8 @@ module _ {K V : Type 0} (number : K → ℕ) (f : Filter) (rows : List (Option (
     slots_same = ap (λ b. 64 * b) d.holds.same.blocks
 
     pub filled_record : (h x : Filter) → x ≡ h → h.plan ≡ g.plan → h.blocks ≡ g.blocks → h.words.ghost_name ≡ g.words.ghost_name → Added g h p (Ok tt) → Filled x (i + 1)
-    filled_record h x q same-plan same_blocks same_name a =
-        let s : SameFilter g h = record { plan = same-plan; blocks = same_blocks; lender = same_name } in
+    filled_record h x q same_plan same_blocks same_name a =
+        let s : SameFilter g h = record { plan = same_plan; blocks = same_blocks; lender = same_name } in
         subst (λ (y : Filter). Filled y (i + 1)) (sym q)
         record {
           holds = holds_more f g h p (front i) (front (i + 1)) d.holds s a.3 a.4 more;

@@ -1,11 +1,10 @@
 -- Which refusals of the parts below can reach a book.
 use Rattle.std.proofs.Common.{◌≡◌, ℕ, ◌+◌, ◌^◌, ◌<◌, true, false, List, ◌∷◌, is_some, Err, sym, refl, ap, ◌∙◌, mod-lt, arith, pow_pos}
 use Rattle.filter.specs.Cuts.{cut_to}
-use Rattle.filter.specs.Filters.{Crowds}
+use Rattle.filter.specs.Filters.{Crowds, fingerprints, slots_of, Added}
 use Rattle.filter.specs.declared.plan.Plan.{Plan}
 use Rattle.filter.specs.declared.fault.FilterFault.{FilterFault}
 use Rattle.filter.specs.declared.fault.FilterFault.TheVariants.{BadPlan, WideFingerprint, NoSlot, NoSuchFingerprint}
-use Rattle.filter.specs.Filters.{fingerprints, slots_of, Added}
 use Rattle.filter.specs.declared.filter.Filter.{Filter}
 use Rattle.tables.specs.Meaning.{Meaning, value_in, held_in, SetDone}
 use Rattle.tables.specs.declared.fault.TableFault.{TableFault}

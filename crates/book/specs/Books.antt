@@ -3,10 +3,8 @@
 use Rattle.std.specs.Prelude.{◌≡◌, ℕ, List, [], ◌∷◌, map, Some, None, Ok, Err, Result}
 use Rattle.layout.specs.Rule.{sorted, insert, remove, Roomy}
 use Rattle.filter.specs.Cuts.{cut_to}
-use Rattle.filter.specs.Filters.{Crowds}
+use Rattle.filter.specs.Filters.{Crowds, words_of, fingerprints, slots_of, laid_over, cleared_over}
 use Rattle.filter.specs.declared.fault.FilterFault.TheVariants.{NoSlot}
-use Rattle.filter.specs.Filters.{words_of, fingerprints, slots_of}
-use Rattle.filter.specs.Filters.{laid_over, cleared_over}
 use Rattle.filter.specs.declared.filter.Filter.{Filter}
 use Rattle.tables.specs.Rows.{keys_of}
 use Rattle.tables.specs.Meaning.{Meaning, value_in, held_in, Revalued}

@@ -65,12 +65,12 @@ pub over_words : (get_or (filter_words 8 2 (16128 ∷ 16129 ∷ 16130 ∷ [])) 1
 unfolding filter_words block_word bits quotient remainder insert sorted laid at others offset_at
 over_words = (refl, refl)
 
-pub over-slots :
+pub over_slots :
     (slot_shown 8 (16128 ∷ 16129 ∷ 16130 ∷ []) 63 ≡ Some (record { 0 = 63 }, 0))
     × (slot_shown 8 (16128 ∷ 16129 ∷ 16130 ∷ []) 64 ≡ Some (record { 0 = 63 }, 1))
     × (slot_shown 8 (16128 ∷ 16129 ∷ 16130 ∷ []) 65 ≡ Some (record { 0 = 63 }, 2))
 unfolding quotient remainder laid at
-over-slots = (refl, refl, refl)
+over_slots = (refl, refl, refl)
 
 -- the offset of each of three blocks, of any list
 offset_words : (ps : List ℕ)
@@ -80,17 +80,17 @@ offset_words : (ps : List ℕ)
 unfolding filter_words block_word
 offset_words ps = (refl, refl, refl)
 
-many-zeros :
+many_zeros :
     (offset_at 8 (layout 8 (replicate 150 0)) 0 ≡ 0)
     × (offset_at 8 (layout 8 (replicate 150 0)) 64 ≡ 86)
     × (offset_at 8 (layout 8 (replicate 150 0)) 128 ≡ 22)
 unfolding quotient insert sorted laid offset_at
-many-zeros = (refl, refl, refl)
+many_zeros = (refl, refl, refl)
 
-pub long-words :
+pub long_words :
     (get_or (filter_words 8 3 (replicate 150 0)) 2 0 ≡ 0)
     × (get_or (filter_words 8 3 (replicate 150 0)) 13 0 ≡ 86)
     × (get_or (filter_words 8 3 (replicate 150 0)) 24 0 ≡ 22)
-long-words =
+long_words =
     let w = offset_words (replicate 150 0) in
-    (w.0 ∙ many-zeros.0, w.1 ∙ many-zeros.1, w.2 ∙ many-zeros.2)
+    (w.0 ∙ many_zeros.0, w.1 ∙ many_zeros.1, w.2 ∙ many_zeros.2)

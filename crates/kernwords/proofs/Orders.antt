@@ -1,12 +1,12 @@
 -- Sorted pairs, of which each is kept once.
-use Rattle.std.proofs.Common.{◌≡◌, ℕ, zero, suc, ◌+◌, ◌<◌, Bool, true, false, ◌⊎◌, List, [], ◌∷◌, length, get_or, ◌==◌, ◌&&◌, Ordering, Less, Equal, sym, refl, ap, ap₂, ◌∙◌, subst, inl, inr, ⊎_elim, true≢false, add-one, arith}
+use Rattle.std.proofs.Common.{◌≡◌, ℕ, zero, suc, ◌+◌, ◌<◌, Bool, true, false, ◌⊎◌, List, [], ◌∷◌, length, get_or, ◌==◌, ◌&&◌, Ordering, Less, Equal, sym, ap, ap₂, ◌∙◌, subst, inl, inr, ⊎_elim, true≢false, add-one, arith}
 use Rattle.std.specs.Ordering.{is_lt, nat_cmp, ordering_then}
 use Rattle.std.specs.Cmp.{nat_cmp_is}
 use Rattle.std.specs.List.{items_where_true, ContainsAt as Has}
 use Rattle.std.specs.List.Retain.{DiffersFromLast}
 use Rattle.std.specs.List.Retain as changed
 use Rattle.std.proofs.str.Laws.{order}
-use Rattle.std.proofs.lemmas.Bool.{and_from, eq-eqb, eqb-true}
+use Rattle.std.proofs.lemmas.Bool.{and_from, and_parts, eq-eqb, eqb-true}
 use Rattle.kinds.specs.declared.kern.Pair.{Pair}
 use Rattle.kernwords.specs.Pairs.{Before, Climbing, SamePairs}
 
@@ -67,12 +67,8 @@ climbing y [] h i d lt = absurd (omega arith)
 climbing y (x ∷ xs) h zero d lt = h.0
 climbing y (x ∷ xs) h (suc i) d lt = climbing x xs h.1 i d (omega arith)
 
-and_true : {s t : Bool} → (s && t) ≡ true → (s ≡ true) × (t ≡ true)
-and_true {s = true} {t = t} h = (refl, h)
-and_true {s = false} {t = t} h = absurd (true≢false (sym h))
-
 alike : (x y : Pair) → pair_eq x y ≡ true → x ≡ y
-alike x y h = let both = and_true h in same_pair x y (eqb-true x.left y.left both.0) (eqb-true x.right y.right both.1)
+alike x y h = let both = and_parts (x.left == y.left) (x.right == y.right) h in same_pair x y (eqb-true x.left y.left both.0) (eqb-true x.right y.right both.1)
 
 unlike : (x y : Pair) → pair_eq x y ≡ false → x ≡ y → ⊥
 unlike x y h e = true≢false (sym (and_from (x.left == y.left) (x.right == y.right) (eq-eqb x.left y.left (ap (λ p. p.left) e)) (eq-eqb x.right y.right (ap (λ p. p.right) e))) ∙ h)

@@ -7,8 +7,7 @@ use Rattle.layout.specs.Laws.{count}
 use Rattle.filter.specs.Cuts.{cut_to}
 use Rattle.filter.specs.declared.plan.Plan.{Plan}
 use Rattle.filter.specs.Meaning.{size_of}
-use Rattle.filter.specs.Filters.{words_of, fingerprints}
-use Rattle.filter.specs.Filters.{laid_over}
+use Rattle.filter.specs.Filters.{words_of, fingerprints, laid_over}
 use Rattle.filter.specs.declared.filter.Filter.{Filter}
 use Rattle.tables.specs.Rows.{keys_of, Apart}
 use Rattle.tables.specs.Meaning.{Meaning, SameFrame, value_in, Revalued}

@@ -3,8 +3,7 @@
 use Rattle.std.specs.Prelude.{◌≡◌, ℕ, List, ◌∷◌, ◌++◌, map, length, None, Ok, Err, vec_items, Option, Result, Vec}
 use Rattle.layout.specs.Rule.{Roomy}
 use Rattle.filter.specs.Cuts.{cut_to}
-use Rattle.filter.specs.Filters.{words_of, slots_of}
-use Rattle.filter.specs.Filters.{laid_over}
+use Rattle.filter.specs.Filters.{words_of, slots_of, laid_over}
 use Rattle.filter.specs.declared.filter.Filter.{Filter}
 use Rattle.tables.specs.Meaning.{Meaning, value_in}
 use Rattle.history.specs.History.{History, paired, Follows, Current, Lawful}
@@ -49,7 +48,10 @@ pub record Replayed {K V : Type 0} (bytes : K → List ℕ) (number : K → ℕ)
   -- no key that had a value when it was looked for was answered by the filter alone
   pub found : (before after : History K V) (k : K) (value : K → Option V) → paired ops answers ≡ before ++ (Find k, answer.Found found.Filter) ∷ after
       → Follows (value_in bytes m) before value → value k ≡ None
-  -- the words are those laid out from nothing with the fingerprints of the current keys, one for each key; later words stay
+  -- the current keys can be listed, each once
+  pub keys : List K
+  pub current : Current bytes (value_in bytes n) keys
+  -- the words are those laid out from nothing with the fingerprints of the current keys, one for each key, however they are listed; later words stay
   pub words : (ks : List K) → Current bytes (value_in bytes n) ks → words_of g ≡ laid_over f.plan.r f.blocks (map (λ k. cut_to f.plan (number k)) ks) (words_of f)
 
 -- Want of memory changes nothing. An opening is refused exactly where the held keys crowd some quotient: the filter is then empty, and no operation is done.

@@ -2,7 +2,7 @@ use Rattle.std.proofs.Common.{◌≡◌, [], ◌∷◌, get_or, replicate, refl,
 use Rattle.layout.specs.Rule.{insert, sorted, remove}
 use Rattle.layout.proofs.Formats.{words_any_order}
 use Rattle.filter.specs.Slots.{slot_shown}
-use Rattle.examples.proofs.Words.{words_by, sized_adds, sized_take, adds_sorted, empty_words, three_words, two_words, over_words, over-slots, long-words}
+use Rattle.examples.proofs.Words.{words_by, sized_adds, sized_take, adds_sorted, empty_words, three_words, two_words, over_words, over_slots, long_words}
 use Rattle.examples.proofs.Refusals.{refused, accepted, given, small, crowd_two, crowd_three, free_zero}
 use Rattle.examples.proofs.Accepts.{none_refused, three_room, three_narrow, over_room, over_narrow, zeros_room, zeros_narrow}
 use Rattle.examples.proofs.Selects.{rank_five, select_second, select_third}
@@ -30,9 +30,9 @@ returns c = record {
       let size = sized_adds f g 2 ps s all in
       let held = adds_sorted f g ps e all ∙ order in
       let words = words_by g 2 _ size held in (
-        ap₂ (λ r es. slot_shown r es 63) size.remainders held ∙ over-slots.0,
-        ap₂ (λ r es. slot_shown r es 64) size.remainders held ∙ over-slots.1,
-        ap₂ (λ r es. slot_shown r es 65) size.remainders held ∙ over-slots.2,
+        ap₂ (λ r es. slot_shown r es 63) size.remainders held ∙ over_slots.0,
+        ap₂ (λ r es. slot_shown r es 64) size.remainders held ∙ over_slots.1,
+        ap₂ (λ r es. slot_shown r es 65) size.remainders held ∙ over_slots.2,
         ap (λ ws. get_or ws 12 0) words ∙ over_words.0,
         ap (λ ws. get_or ws 13 0) words ∙ over_words.1,
       );
@@ -43,9 +43,9 @@ returns c = record {
   no_slot_number = refl;
   long_run = λ f g s e all.
       let words = words_by g 3 _ (sized_adds f g 3 (replicate 150 0) s all) (adds_sorted f g (replicate 150 0) e all) ∙ words_any_order 8 3 (replicate 150 0) in (
-        ap (λ ws. get_or ws 2 0) words ∙ long-words.0,
-        ap (λ ws. get_or ws 13 0) words ∙ long-words.1,
-        ap (λ ws. get_or ws 24 0) words ∙ long-words.2,
+        ap (λ ws. get_or ws 2 0) words ∙ long_words.0,
+        ap (λ ws. get_or ws 13 0) words ∙ long_words.1,
+        ap (λ ws. get_or ws 24 0) words ∙ long_words.2,
       );
   long_run_accepted = none_refused 3 (replicate 150 0) zeros_room (zeros_narrow 150 63);
   pair_zero_one = refl;

@@ -1,7 +1,6 @@
 use Rattle.std.proofs.Common.{◌≡◌, ◌<◌, ◌≤◌, [], length, ap, subst, arith}
 use Rattle.filter.specs.Cuts.{cut_to}
-use Rattle.filter.specs.Filters.{words_of}
-use Rattle.filter.specs.Filters.{cleared_over}
+use Rattle.filter.specs.Filters.{words_of, cleared_over}
 use Rattle.filter.specs.declared.filter.Filter.{Filter}
 use Rattle.history.specs.declared.fault.BookFault.TheVariants.{Filter as FromFilter}
 use Rattle.book.specs.Books.{SameFilter}

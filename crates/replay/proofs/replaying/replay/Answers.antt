@@ -116,6 +116,8 @@ returns g c =
         lawful = lawful;
         found = λ before after k value q w. unmissed (terms_of bytes number f m) apart value k ((lawful before after (Find k) (Found found.Filter) q).due value w);
         table = subst (λ (l : History _ _). Follows (value_in bytes m) l (value_in bytes n)) whole inv.7;
+        keys = keys_of n.rows;
+        current = current_keys bytes apart n.rows (g.X.Table.proper c.loop-operation.table inv.0).once;
         words = words_current bytes apart number f c.loop-operation.filter n (g.X.Table.proper c.loop-operation.table inv.0).once holds;
       };
       undone = λ q. let z : ◌≡◌ {A = ℕ} 0 1 = cc in absurd (omega arith);
