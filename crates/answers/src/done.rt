@@ -1,18 +1,7 @@
-use history::{Found, Stored};
-
-/// What an operation that a book accepts did.
-#[derive(Clone, Copy)]
-pub enum Told<V> {
-    /// A put.
-    Stored(Stored),
-    /// A drop.
-    Dropped,
-    /// A find.
-    Found(Found<V>),
-}
+pub use history::Told;
 
 /// What a line that is not refused did, and in which book.
-#[derive(Clone, Copy)]
+#[derive(Clone, Copy, PartialEq, Eq, Debug)]
 pub enum Done {
     /// In the kerning book.
     Kern(Told<i16>),

@@ -1,9 +1,11 @@
-ghost use Rattle.std.specs.Prelude.{◌≡◌};
+ghost use Rattle.std.specs.Prelude.{◌≡◌, ◌++◌, Some, codes, decimal};
 ghost use Rattle.answers.specs.Faults.{number_of, buffer_number};
 ghost use Rattle.answers.specs.declared.fault.Refusal.TheVariants.{Buffer, Line, Book};
 
 use forms::LineFault;
 use history::BookFault;
+use std::error::Error;
+use std::fmt;
 
 /// Why an answer is not written.
 #[derive(Clone, Copy, PartialEq, Eq, Debug)]
@@ -22,6 +24,19 @@ impl BufferFault {
         }
     }
 }
+
+/// Its number.
+// kept: Display is implemented for one type at a time, and no macro of the repository may write impls.
+impl fmt::Display for BufferFault {
+    ghost output = { λ f. Some (decimal (buffer_number f)) };
+
+    fn fmt<W: fmt::Write>(&self, f: &mut fmt::Formatter<W>) -> fmt::Result {
+        let number = self.number();
+        write!(f, "{number}")
+    }
+}
+
+impl Error for BufferFault {}
 
 /// Why a line or a whole sheet is turned away: the part that refuses, and its fault.
 #[derive(Clone, Copy, PartialEq, Eq, Debug)]
@@ -49,6 +64,18 @@ impl Refusal {
         }
     }
 }
+
+/// Its number.
+// kept: Display is implemented for one type at a time, and no macro of the repository may write impls.
+impl fmt::Display for Refusal {
+    ghost output = { λ f. Some (decimal (number_of f)) };
+
+    fn fmt<W: fmt::Write>(&self, f: &mut fmt::Formatter<W>) -> fmt::Result {
+        write!(f, "{}", self.number())
+    }
+}
+
+impl Error for Refusal {}
 
 impl From<BufferFault> for Refusal {
     ghost from_gives = { λ f r. r ≡ Buffer f };
@@ -80,3 +107,14 @@ pub struct SheetFault {
     pub line: u32,
     pub fault: Refusal,
 }
+
+/// Its line and its number, as they are written in answer to the line, without byte 10.
+impl fmt::Display for SheetFault {
+    ghost output = { λ f. Some (decimal f.line ++ (codes " fault " ++ decimal (number_of f.fault))) };
+
+    fn fmt<W: fmt::Write>(&self, f: &mut fmt::Formatter<W>) -> fmt::Result {
+        write!(f, "{} fault {}", self.line, self.fault)
+    }
+}
+
+impl Error for SheetFault {}

@@ -3,7 +3,6 @@
 
 mod done;
 mod fault;
-mod text;
 mod writing;
 
 pub use done::{Done, Told};

@@ -1,77 +1,76 @@
 //! Writing an answer into a buffer of the caller's.
-ghost use Rattle.std.specs.Prelude.{◌≡◌, ◌+◌, ◌≤◌, length, Err, decimal};
-ghost use Rattle.std.specs.Fmt.{signed_decimal};
-ghost use Rattle.answers.specs.Laid.{laid};
-ghost use Rattle.answers.specs.Texts.{said, Answered};
+ghost use Rattle.std.specs.Prelude.{◌≡◌, ◌+◌, ◌≤◌, ◌++◌, length, Err, decimal};
+ghost use Rattle.arrayvec.specs.ArrayString.{array_string_len};
+ghost use Rattle.history.specs.Texts.{book_text};
+ghost use Rattle.answers.specs.Texts.{Answered, answer_line, text_for};
 
-use crate::done::Done;
+use crate::done::{Done, Told};
 use crate::fault::{BufferFault, Refusal, SheetFault};
-use crate::text::{Text, text_of};
+use arrayvec::ArrayString;
+use history::{Found, Stored};
+use itoa::{Buffer, Integer};
 
-// Writes a text at a place, and gives the place after it.
-fn put(buf: &mut [u8], at: usize, text: &[u8]) -> usize
-    requires { at + length text.now ≤ length buf.old }
-    ensures end { result ≡ at + length text.now }
-    ensures bytes { buf.new ≡ laid at text.now buf.old }
+/// The bytes that a buffer for an answer has at least; no line is longer.
+const ROOM: usize = 32;
+
+/// The line of an answer, while it is put together in fixed memory.
+type Line = ArrayString<ROOM>;
+
+// Adds a number or a value.
+fn push_number<I: Integer>(line: &mut Line, n: I)
+    requires { array_string_len line.old + I.MAX_STR_LEN ≤ 32 }
+    ensures bytes { line.new.bytes ≡ line.old.bytes ++ I.text n }
+    ensures most { array_string_len line.new ≤ array_string_len line.old + I.MAX_STR_LEN }
 {
-    let end = at + text.len();
-    buf[at..end].copy_from_slice(text);
-    end
+    line.push_str(Buffer::new().format(n));
 }
 
-// Writes a number at a place, and gives the place after it.
-fn put_number(buf: &mut [u8], at: usize, n: u32) -> usize
-    requires { at + length (decimal n) ≤ length buf.old }
-    ensures end { result ≡ at + length (decimal n) }
-    ensures bytes { buf.new ≡ laid at (decimal n) buf.old }
+// Adds what a book did.
+// kept: the words stand in the Display of `Told` too, but by its contract a `write!` may fail, also into enough fixed memory, and an answer may not.
+fn push_told<V: Integer>(line: &mut Line, told: Told<V>)
+    requires { (array_string_len line.old ≤ 11) × (V.MAX_STR_LEN ≤ 6) }
+    ensures bytes { line.new.bytes ≡ line.old.bytes ++ book_text V.text told }
+    ensures most { array_string_len line.new ≤ array_string_len line.old + 17 }
 {
-    let last = b'0' + (n % 10) as u8;
-    if n < 10 {
-        buf[at] = last;
-        at + 1
-    } else {
-        let at = put_number(buf, at, n / 10);
-        buf[at] = last;
-        at + 1
-    }
-}
-
-// Writes a value, with a minus where it is below 0, at a place, and gives the place after it.
-fn put_value(buf: &mut [u8], at: usize, v: i32) -> usize
-    requires { at + length (signed_decimal v) ≤ length buf.old }
-    ensures end { result ≡ at + length (signed_decimal v) }
-    ensures bytes { buf.new ≡ laid at (signed_decimal v) buf.old }
-{
-    if v < 0 {
-        let at = put(buf, at, b"-");
-        put_number(buf, at, v.unsigned_abs())
-    } else {
-        put_number(buf, at, v.unsigned_abs())
-    }
-}
-
-// Writes what stands after a line's number at a place, and gives the place after it.
-fn put_text(buf: &mut [u8], at: usize, text: Text) -> usize
-    requires { at + 17 ≤ length buf.old }
-    ensures end { result ≡ at + length (said text) }
-    ensures most { result ≤ at + 17 }
-    ensures bytes { buf.new ≡ laid at (said text) buf.old }
-{
-    match text {
-        Text::Kept => put(buf, at, b"kept"),
-        Text::Changed => put(buf, at, b"changed"),
-        Text::Dropped => put(buf, at, b"dropped"),
-        Text::NoneFilter => put(buf, at, b"none filter"),
-        Text::NoneTable => put(buf, at, b"none table"),
-        Text::Value(v) => {
-            let at = put_value(buf, at, v);
-            put(buf, at, b" table")
-        }
-        Text::Fault(n) => {
-            let at = put(buf, at, b"fault ");
-            put_number(buf, at, n)
+    match told {
+        Told::Stored(Stored::Kept) => line.push_str("kept"),
+        Told::Stored(Stored::Changed) => line.push_str("changed"),
+        Told::Dropped => line.push_str("dropped"),
+        Told::Found(Found::Filter) => line.push_str("none filter"),
+        Told::Found(Found::Table(None)) => line.push_str("none table"),
+        Told::Found(Found::Table(Some(value))) => {
+            push_number(line, value);
+            line.push_str(" table");
         }
     }
+}
+
+// Adds what stands after a line's number.
+fn push_reply(line: &mut Line, reply: Result<Done, Refusal>)
+    requires { array_string_len line.old ≤ 11 }
+    ensures bytes { line.new.bytes ≡ line.old.bytes ++ text_for reply }
+    ensures most { array_string_len line.new ≤ array_string_len line.old + 17 }
+{
+    match reply {
+        Ok(Done::Kern(told)) => push_told(line, told),
+        Ok(Done::Ligature(told)) => push_told(line, told),
+        Err(fault) => {
+            line.push_str("fault ");
+            push_number(line, fault.number());
+        }
+    }
+}
+
+// The number of a line, a space, what it is answered and byte 10.
+fn line_of(number: u32, reply: Result<Done, Refusal>) -> Line
+    ensures { result.bytes ≡ answer_line number reply }
+{
+    let mut line = ArrayString::new();
+    push_number(&mut line, number);
+    line.push(' ');
+    push_reply(&mut line, reply);
+    line.push('\n');
+    line
 }
 
 /// Writes the number of a line, a space, what it is answered and byte 10 to the front of a buffer, and tells how many
@@ -83,13 +82,12 @@ pub fn write_answer(
 ) -> Result<usize, BufferFault>
     ensures { Answered number reply buf.old buf.new result }
 {
-    if buf.len() < 32 {
+    if buf.len() < ROOM {
         return Err(BufferFault::ShortBuffer);
     }
-    let at = put_number(buf, 0, number);
-    let at = put(buf, at, b" ");
-    let at = put_text(buf, at, text_of(reply));
-    Ok(put(buf, at, b"\n"))
+    let line = line_of(number, reply);
+    buf[..line.len()].copy_from_slice(line.as_bytes());
+    Ok(line.len())
 }
 
 /// Writes a refusal with its line, under the same rules.

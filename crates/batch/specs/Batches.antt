@@ -7,23 +7,27 @@ use Rattle.forms.specs.Meaning.{Meant}
 use Rattle.forms.specs.declared.command.Command.{Command}
 use Rattle.forms.specs.declared.command.Command.TheVariants as command
 use Rattle.forms.specs.declared.fault.LineFault.{LineFault}
-use Rattle.batch.specs.declared.lines.Destination.{Destination}
-use Rattle.batch.specs.declared.lines.Destination.TheVariants.{Kern, Ligature, Nowhere}
+use Rattle.batch.specs.declared.lines.BookKind.{BookKind}
+use Rattle.batch.specs.declared.lines.BookKind.TheVariants.{Kern, Ligature}
+
+-- where a line goes: to a book, or nowhere, by its fault
+abbrev pub Destination : Type 0
+Destination = Result BookKind LineFault
 
 -- Each line has a destination. One that means an operation of a book goes there, and its operation is the next of that book's; any other goes nowhere, by
 -- its fault.
 unfoldable pub Sorted : List (List ℕ) → List (Operation Pair ℤ) → List (Operation Sequence ℕ) → List Destination → Type 0
 Sorted [] ks gs ds = (ks ≡ []) × (gs ≡ []) × (ds ≡ [])
 Sorted (line ∷ lines) ks gs [] = ⊥
-Sorted (line ∷ lines) ks gs (Kern ∷ ds) = (o : Operation Pair ℤ) × (more : List (Operation Pair ℤ)) × Meant line (Ok (command.Kern o)) × (ks ≡ o ∷ more) × Sorted lines more gs ds
-Sorted (line ∷ lines) ks gs (Ligature ∷ ds) = (o : Operation Sequence ℕ) × (more : List (Operation Sequence ℕ)) × Meant line (Ok (command.Ligature o)) × (gs ≡ o ∷ more) × Sorted lines ks more ds
-Sorted (line ∷ lines) ks gs (Nowhere f ∷ ds) = Meant line (Err f) × Sorted lines ks gs ds
+Sorted (line ∷ lines) ks gs (Ok Kern ∷ ds) = (o : Operation Pair ℤ) × (more : List (Operation Pair ℤ)) × Meant line (Ok (command.Kern o)) × (ks ≡ o ∷ more) × Sorted lines more gs ds
+Sorted (line ∷ lines) ks gs (Ok Ligature ∷ ds) = (o : Operation Sequence ℕ) × (more : List (Operation Sequence ℕ)) × Meant line (Ok (command.Ligature o)) × (gs ≡ o ∷ more) × Sorted lines ks more ds
+Sorted (line ∷ lines) ks gs (Err f ∷ ds) = Meant line (Err f) × Sorted lines ks gs ds
 
 -- What a line that means this adds: to one book's operations, and to the destinations.
 abbrev pub Appended : Result Command LineFault → List (Operation Pair ℤ) → List (Operation Sequence ℕ) → List Destination → List (Operation Pair ℤ) → List (Operation Sequence ℕ) → List Destination → Type 0
-Appended (Ok (command.Kern o)) ks gs ds ks' gs' ds' = (ks' ≡ ks ++ o ∷ []) × (gs' ≡ gs) × (ds' ≡ ds ++ Kern ∷ [])
-Appended (Ok (command.Ligature o)) ks gs ds ks' gs' ds' = (ks' ≡ ks) × (gs' ≡ gs ++ o ∷ []) × (ds' ≡ ds ++ Ligature ∷ [])
-Appended (Err f) ks gs ds ks' gs' ds' = (ks' ≡ ks) × (gs' ≡ gs) × (ds' ≡ ds ++ Nowhere f ∷ [])
+Appended (Ok (command.Kern o)) ks gs ds ks' gs' ds' = (ks' ≡ ks ++ o ∷ []) × (gs' ≡ gs) × (ds' ≡ ds ++ Ok Kern ∷ [])
+Appended (Ok (command.Ligature o)) ks gs ds ks' gs' ds' = (ks' ≡ ks) × (gs' ≡ gs ++ o ∷ []) × (ds' ≡ ds ++ Ok Ligature ∷ [])
+Appended (Err f) ks gs ds ks' gs' ds' = (ks' ≡ ks) × (gs' ≡ gs) × (ds' ≡ ds ++ Err f ∷ [])
 
 -- one line more
 abbrev pub Noted : List ℕ → List (Operation Pair ℤ) → List (Operation Sequence ℕ) → List Destination → List (Operation Pair ℤ) → List (Operation Sequence ℕ) → List Destination → Type 0

@@ -4,7 +4,9 @@
 mod lines;
 mod reading;
 mod reporting;
+#[cfg(test)]
+mod tests;
 
-pub use lines::{Batch, Destination, RefusedLine};
+pub use lines::{Batch, BookKind, Destination, RefusedLine};
 pub use reading::batch_of;
 pub use reporting::refused_lines;

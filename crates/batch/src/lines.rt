@@ -1,17 +1,19 @@
+use answers::Refusal;
 use forms::LineFault;
 use history::Operation;
 use kinds::{Pair, Sequence};
 
-/// Where a line goes.
-#[derive(Clone, Copy)]
-pub enum Destination {
-    /// To the kerning book.
+/// One of the two books.
+#[derive(Clone, Copy, PartialEq, Eq, Debug)]
+pub enum BookKind {
+    /// The kerning book.
     Kern,
-    /// To the ligature book.
+    /// The ligature book.
     Ligature,
-    /// Nowhere: it is refused before a book is asked.
-    Nowhere(LineFault),
 }
+
+/// Where a line goes: to a book, or nowhere, since it is refused before a book is asked.
+pub type Destination = Result<BookKind, LineFault>;
 
 /// The lines of a text, sorted by book.
 #[derive(Drop)]
@@ -24,9 +26,11 @@ pub struct Batch {
     pub lines: Vec<Destination>,
 }
 
-/// A line that is refused, counted from 1, and the number of its refusal.
-#[derive(Clone, Copy)]
+/// A line that is refused, counted from 1, and why.
+// kept beside `SheetFault`, which has a u32 in place of the usize: a text may have more lines than a sheet, and one generic struct for both would be no
+// plainer than these two fields.
+#[derive(Clone, Copy, PartialEq, Eq, Debug)]
 pub struct RefusedLine {
     pub line: usize,
-    pub number: u32,
+    pub fault: Refusal,
 }

@@ -1,56 +1,39 @@
 //! Telling which lines were refused.
-ghost use Rattle.std.specs.Prelude.{◌≡◌, List, [], ◌∷◌, length, drop, IfOk};
-ghost use Rattle.batch.specs.Reports.{refusal_for, refused_from, Asked, Told};
+ghost use Rattle.std.specs.Prelude.{◌≡◌, IfOk};
+ghost use Rattle.std.specs.Slice.Iter.{iter_rest};
+ghost use Rattle.batch.specs.Reports.{refused_from, Asked, Told};
 
-use crate::lines::{Destination, RefusedLine};
+use crate::lines::{BookKind, Destination, RefusedLine};
+use answers::Refusal;
 use history::Answer;
 use std::alloc::{AllocError, Global};
+use std::slice::Iter;
 
-// The number of a refusal, if the answer is one.
-fn refusal_of<V: Copy>(answer: Answer<V>) -> Option<u32>
-    ensures { result ≡ refusal_for answer }
+// Why the next answer is a refusal, if it is one. Past the last answer none is.
+fn next_refusal<V: Copy>(answers: &mut Iter<'_, Answer<V>>) -> Option<Refusal>
+    ensures { Asked (iter_rest answers.old) result (iter_rest answers.new) }
 {
-    match answer {
-        Answer::Refused(fault) => Some(fault.number()),
-        _ => None,
-    }
+    answers.next()?.err().map(Refusal::Book)
 }
 
-// The refusal at a place of the answers, and the place after it. Past the last there is none.
-fn next<V: Copy>(answers: &[Answer<V>], at: usize) -> (Option<u32>, usize)
-    ensures { Asked (drop at answers.now) result.0 (drop result.1 answers.now) }
-{
-    if at < answers.len() {
-        (refusal_of(answers[at]), at + 1)
-    } else {
-        (None, at)
-    }
-}
-
-// What becomes of a line: the number of its refusal, if it is refused, and the places of the books' next answers after it.
-fn outcome(
+// Why a line is refused, if it is. It takes the next answer of the book that it went to.
+#[tactic(auto, unfolding(crate::specs::Reports::refused_from))]
+fn refusal_of(
     destination: Destination,
-    kerns: &[Answer<i16>],
-    ligatures: &[Answer<u16>],
-    kern: usize,
-    ligature: usize,
-) -> (Option<u32>, usize, usize)
-    ensures { Told destination (drop kern kerns.now) (drop ligature ligatures.now) result.0 (drop result.1 kerns.now) (drop result.2 ligatures.now) }
+    kerns: &mut Iter<'_, Answer<i16>>,
+    ligatures: &mut Iter<'_, Answer<u16>>,
+) -> Option<Refusal>
+    ensures { Told destination (iter_rest kerns.old) (iter_rest ligatures.old) result (iter_rest kerns.new) (iter_rest ligatures.new) }
 {
     match destination {
-        Destination::Kern => {
-            let (number, after) = next(kerns, kern);
-            (number, after, ligature)
-        }
-        Destination::Ligature => {
-            let (number, after) = next(ligatures, ligature);
-            (number, kern, after)
-        }
-        Destination::Nowhere(fault) => (Some(fault.number()), kern, ligature),
+        Ok(BookKind::Kern) => next_refusal(kerns),
+        Ok(BookKind::Ligature) => next_refusal(ligatures),
+        Err(fault) => Some(Refusal::Line(fault)),
     }
 }
 
 /// The lines that are refused, in order, by their destinations and by what each book answered to the operations that it got.
+#[tactic(auto, unfolding(crate::specs::Reports::refused_from))]
 pub fn refused_lines(
     heap: Global,
     lines: &[Destination],
@@ -60,24 +43,12 @@ pub fn refused_lines(
     ensures { IfOk result (λ v. v.items ≡ refused_from 1 lines.now kerns.now ligatures.now) }
 {
     let mut refused = Vec::new(heap);
-    let mut kern = 0;
-    let mut ligature = 0;
+    let mut kerns_left = kerns.iter();
+    let mut ligatures_left = ligatures.iter();
     for (i, destination) in lines.iter().enumerate() {
-        let (number, next_kern, next_ligature) = outcome(
-            *destination,
-            kerns,
-            ligatures,
-            kern,
-            ligature,
-        );
-        if let Some(number) = number {
-            refused.push(RefusedLine {
-                line: i + 1,
-                number,
-            })?;
+        if let Some(fault) = refusal_of(*destination, &mut kerns_left, &mut ligatures_left) {
+            refused.push(RefusedLine { line: i + 1, fault })?;
         }
-        kern = next_kern;
-        ligature = next_ligature;
     }
     Ok(refused)
 }

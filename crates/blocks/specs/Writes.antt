@@ -1,6 +1,11 @@
 -- What one write changes, and what it leaves: vs are the words after it.
-use Rattle.std.specs.Prelude.{◌≡◌, ℕ, cond, List, ◌==◌}
+use Rattle.std.specs.Prelude.{◌≡◌, ℕ, ◌^◌, ◌<◌, cond, List, ◌==◌, slice_index, slice_set}
+use Rattle.words.specs.Bits.{bit_at}
 use Rattle.blocks.specs.Views.{occupied_bit_in, runend_in, offset_in, remainder_in}
+
+-- bit i of the word at `at` is v now, and all else is as it was
+abbrev pub WithBit : List ℕ → List ℕ → ℕ → ℕ → ℕ → Type 0
+WithBit ws vs at i v = (w : ℕ) × (w < 2 ^ 64) × ((k : ℕ) → k < 64 → bit_at w k ≡ cond (k == i) v (bit_at (slice_index ws at) k)) × (vs ≡ slice_set ws at w)
 
 -- the occupied bit of quotient c is v now
 pub record WroteOccupied (r : ℕ) (ws vs : List ℕ) (c v : ℕ) : Type 0 where

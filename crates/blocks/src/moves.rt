@@ -1,8 +1,10 @@
 //! Entries moved by one slot over a stretch of slots, and offsets changed by one over a stretch of blocks.
-ghost use Rattle.std.specs.Prelude.{◌≡◌, ◌+◌, ◌*◌, ◌/◌, ◌<◌, ◌≤◌, length, nat_le};
+ghost use Rattle.std.specs.Prelude.{◌≡◌, ℕ, ◌+◌, ◌*◌, ◌/◌, ◌^◌, ◌<◌, ◌≤◌, length, nat_le};
 ghost use Rattle.blocks.specs.Moves.{Holds, Within, MovedUp, MovedDown, CopiedEntry, ChangedOffsets, raised, lowered};
 
-use crate::{Slot, offset, remainder, runend, set_offset, set_remainder, set_runend};
+use crate::Slot;
+use crate::reading::Blocks;
+use crate::writing::{set_offset, set_remainder, set_runend};
 use words::Width;
 
 /// Whether the first `n` blocks lie wholly within the words.
@@ -17,8 +19,9 @@ fn copy_entry(words: &mut [u64], width: Width, j: Slot, i: Slot)
     requires { Within width.bits words.old i.0 }
     ensures { CopiedEntry width.bits words.old words.new j.0 i.0 }
 {
-    let rest = remainder(words, width, j);
-    let last = runend(words, width, j);
+    let from = Blocks { width, words };
+    let rest = from.remainder(j);
+    let last = from.runend(j);
     set_remainder(words, width, i, rest);
     set_runend(words, width, i, last);
 }
@@ -35,6 +38,7 @@ fn shift_up(words: &mut [u64], width: Width, from: Slot, to: Slot)
 }
 
 /// Moves the entries down, the lowest first.
+// kept beside the other: the order of the copies differs too, so that none is written over before it has moved, and one contract would have to tell two cases.
 fn shift_down(words: &mut [u64], width: Width, from: Slot, to: Slot)
     requires order { from.0 ≤ to.0 }
     requires room { Within width.bits words.old to.0 }
@@ -45,25 +49,17 @@ fn shift_down(words: &mut [u64], width: Width, from: Slot, to: Slot)
     }
 }
 
-/// Raises the offsets, block by block.
-fn raise_each(words: &mut [u64], width: Width, from: u32, to: u32)
-    requires { Holds width.bits words.old to }
-    ensures { ChangedOffsets raised width.bits words.old words.new from to }
+/// Changes the offsets, block by block.
+fn change_each<F: Fn(u64) -> u64>(words: &mut [u64], width: Width, from: u32, to: u32, change: F)
+    ghost by: { ℕ → ℕ }
+    requires room { Holds width.bits words.old to }
+    requires can { F.IsAlwaysCallable change }
+    requires means { (v w : ℕ) → v < 2 ^ 64 → F.post change v w → w ≡ by v }
+    ensures { ChangedOffsets by width.bits words.old words.new from to }
 {
     for b in from..to {
-        let v = offset(words, width, b);
-        set_offset(words, width, b, v.saturating_add(1));
-    }
-}
-
-/// Lowers the offsets, block by block.
-fn lower_each(words: &mut [u64], width: Width, from: u32, to: u32)
-    requires { Holds width.bits words.old to }
-    ensures { ChangedOffsets lowered width.bits words.old words.new from to }
-{
-    for b in from..to {
-        let v = offset(words, width, b);
-        set_offset(words, width, b, v.saturating_sub(1));
+        let v = Blocks { width, words }.offset(b);
+        set_offset(words, width, b, change(v));
     }
 }
 
@@ -98,7 +94,7 @@ pub fn raise_offsets(words: &mut [u64], width: Width, from: u32, to: u32)
     ensures past { (Holds width.bits words.old to → ⊥) → words.new ≡ words.old }
 {
     if holds(words, width, to) {
-        raise_each(words, width, from, to);
+        change_each(words, width, from, to, |v| v.saturating_add(1));
     }
 }
 
@@ -109,7 +105,7 @@ pub fn lower_offsets(words: &mut [u64], width: Width, from: u32, to: u32)
     ensures past { (Holds width.bits words.old to → ⊥) → words.new ≡ words.old }
 {
     if holds(words, width, to) {
-        lower_each(words, width, from, to);
+        change_each(words, width, from, to, |v| v.saturating_sub(1));
     }
 }
 
@@ -127,16 +123,16 @@ mod tests {
         set_remainder(&mut row, width, Slot(63), 21);
         set_runend(&mut row, width, Slot(63), true);
         move_up(&mut row, width, Slot(63), Slot(70));
-        assert_eq!(rt; remainder(&row, width, Slot(64)), 21);
-        assert_eq!(rt; runend(&row, width, Slot(64)), true);
+        assert_eq!(rt; Blocks { width, words: &row }.remainder(Slot(64)), 21);
+        assert_eq!(rt; Blocks { width, words: &row }.runend(Slot(64)), true);
         move_down(&mut row, width, Slot(60), Slot(70));
-        assert_eq!(rt; remainder(&row, width, Slot(63)), 21);
-        assert_eq!(rt; remainder(&row, width, Slot(64)), 0);
+        assert_eq!(rt; Blocks { width, words: &row }.remainder(Slot(63)), 21);
+        assert_eq!(rt; Blocks { width, words: &row }.remainder(Slot(64)), 0);
         raise_offsets(&mut row, width, 0, 2);
         raise_offsets(&mut row, width, 1, 3);
         lower_offsets(&mut row, width, 0, 1);
-        assert_eq!(rt; offset(&row, width, 0), 0);
-        assert_eq!(rt; offset(&row, width, 1), 1);
+        assert_eq!(rt; Blocks { width, words: &row }.offset(0), 0);
+        assert_eq!(rt; Blocks { width, words: &row }.offset(1), 1);
         Ok(())
     }
 }

@@ -9,12 +9,12 @@ use Rattle.layout.proofs.Sorts.{sorted_same_counts}
 use Rattle.layout.proofs.Formats.{words_any_order}
 use Rattle.filter.specs.declared.plan.Plan.{Plan}
 use Rattle.filter.specs.Meaning.{size_of}
-use Rattle.filter.specs.Filters.{words_of, fingerprints, laid_over, cleared_over}
+use Rattle.filter.specs.Filters.{SameFilter, words_of, fingerprints, laid_over, cleared_over}
 use Rattle.filter.specs.declared.filter.Filter.{Filter}
 use Rattle.filter.proofs.Held.{words_length}
 use Rattle.tables.specs.Meaning.{Meaning, SameFrame}
 use Rattle.history.proofs.Entries.{Alike, alike_cons, alike_sorted, words_alike, insert_entries, remove_entries}
-use Rattle.book.specs.Books.{SameFilter}
+use Rattle.book.specs.Standings.{Standing, Steady}
 
 pub same_self : (f : Filter) → SameFilter f f
 same_self f = record { plan = refl; blocks = refl; lender = refl }
@@ -132,3 +132,19 @@ frame_then m x y a b = record { admits = b.admits ∙ a.admits; capacity = b.cap
 
 pub frame_self : {K V : Type 0} (m : Meaning K V) → SameFrame m m
 frame_self m = record { admits = refl; capacity = refl; places = refl }
+
+-- ---- books as they stand
+
+pub steady_then : {K V B : Type 0} (r s t : Standing K V B) → Steady r s → Steady s t → Steady r t
+steady_then r s t a b =
+    record {
+      frame = frame_then r.table s.table t.table a.frame b.frame;
+      lender = b.lender ∙ a.lender;
+      beyond = b.beyond ∙ a.beyond;
+      number = b.number ∙ a.number;
+      owners = b.owners ∙ a.owners;
+      filter = same_then r.filter s.filter t.filter a.filter b.filter;
+    }
+
+pub steady_self : {K V B : Type 0} (s : Standing K V B) → Steady s s
+steady_self s = record { frame = frame_self s.table; lender = refl; beyond = refl; number = refl; owners = refl; filter = same_self s.filter }

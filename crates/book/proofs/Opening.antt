@@ -5,7 +5,7 @@ use Rattle.layout.specs.Laws.{count}
 use Rattle.layout.proofs.Sorts.{count_here}
 use Rattle.layout.proofs.Bounds.{empty_law}
 use Rattle.filter.specs.Cuts.{cut_to}
-use Rattle.filter.specs.Filters.{Crowds, fingerprints, slots_of, Added}
+use Rattle.filter.specs.Filters.{SameFilter, Crowds, fingerprints, slots_of, Added}
 use Rattle.filter.specs.declared.plan.Plan.{Plan}
 use Rattle.filter.specs.declared.filter.Filter.{Filter}
 use Rattle.tables.specs.Rows.{keys_of}
@@ -13,7 +13,7 @@ use Rattle.tables.specs.Meaning.{Meaning}
 use Rattle.tables.specs.declared.record.Record.{Record}
 use Rattle.history.proofs.Entries.{Alike, alike_cons, roomy_alike, crowds_alike, crowds_more}
 use Rattle.history.proofs.Rolls.{numbers_free, numbers_record, numbers_split}
-use Rattle.book.specs.Books.{SameFilter, fingerprints_of}
+use Rattle.book.specs.Books.{fingerprints_of}
 use Rattle.book.proofs.Holding.{Holds, holds_self, holds_more, holds_then, entries_alike}
 
 -- a list with one more at its end
@@ -47,10 +47,9 @@ module _ {K V : Type 0} (number : K → ℕ) (f : Filter) (rows : List (Option (
   unfolding keys_of
   filled_none e = record { holds = holds_self f e; room = (empty_law (slots_of f) f.plan.r 0).0 }
 
-  pub filled_free : (g : Filter) (i : ℕ) (x : Filter) → x ≡ g → i < length rows → None ≡ get_or rows i None → Filled g i → Filled x (i + 1)
-  filled_free g i x q l e d =
+  pub filled_free : (g : Filter) (i : ℕ) → i < length rows → None ≡ get_or rows i None → Filled g i → Filled g (i + 1)
+  filled_free g i l e d =
       let same : front (i + 1) ≡ front i = numbers_free mark rows i l e ∙ append_none (front i) in
-      subst (λ (y : Filter). Filled y (i + 1)) (sym q)
       record { holds = subst (λ ps. Holds f g ps) (sym same) d.holds; room = subst (λ ps. Roomy (slots_of f) f.plan.r ps) (sym same) d.room }
 
   module _ (g : Filter) (i : ℕ) (r : Record K V) (l : i < length rows) (e : Some r ≡ get_or rows i None) (d : Filled g i) (p : ℕ) (is : p ≡ cut_to g.plan (number r.key)) where
@@ -65,15 +64,12 @@ module _ {K V : Type 0} (number : K → ℕ) (f : Filter) (rows : List (Option (
     slots_same : slots_of g ≡ slots_of f
     slots_same = ap (λ b. 64 * b) d.holds.same.blocks
 
-    pub filled_record : (h x : Filter) → x ≡ h → h.plan ≡ g.plan → h.blocks ≡ g.blocks → h.words.ghost_name ≡ g.words.ghost_name → Added g h p (Ok tt) → Filled x (i + 1)
-    filled_record h x q same_plan same_blocks same_name a =
-        let s : SameFilter g h = record { plan = same_plan; blocks = same_blocks; lender = same_name } in
-        subst (λ (y : Filter). Filled y (i + 1)) (sym q)
-        record {
-          holds = holds_more f g h p (front i) (front (i + 1)) d.holds s a.3 a.4 more;
-          room = roomy_alike (slots_of f) f.plan.r (p ∷ fingerprints g) (front (i + 1)) counted
-              (subst (λ (plan : Plan). Roomy (slots_of f) plan.r (p ∷ fingerprints g)) d.holds.same.plan (subst (λ n. Roomy n g.plan.r (p ∷ fingerprints g)) slots_same a.1));
-        }
+    pub filled_record : (h : Filter) → SameFilter g h → Added g h p (Ok tt) → Filled h (i + 1)
+    filled_record h s a = record {
+      holds = holds_more f g h p (front i) (front (i + 1)) d.holds s a.3 a.4 more;
+      room = roomy_alike (slots_of f) f.plan.r (p ∷ fingerprints g) (front (i + 1)) counted
+          (subst (λ (plan : Plan). Roomy (slots_of f) plan.r (p ∷ fingerprints g)) d.holds.same.plan (subst (λ n. Roomy n g.plan.r (p ∷ fingerprints g)) slots_same a.1));
+    }
 
     pub crowded_record : Crowds g.plan (slots_of g) (p ∷ fingerprints g) → Crowds f.plan (slots_of f) (map mark (keys_of rows))
     crowded_record c =

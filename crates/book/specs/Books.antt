@@ -33,12 +33,6 @@ held_by bytes f m = record { value = value_in bytes m; held = held_in m; entries
 abbrev pub fingerprints_of : {K V : Type 0} → (K → ℕ) → Filter → Meaning K V → List ℕ
 fingerprints_of number f m = map (λ k. cut_to f.plan (number k)) (keys_of m.rows)
 
--- plan, blocks and loan are the same
-pub record SameFilter (f g : Filter) : Type 0 where
-  pub plan : g.plan ≡ f.plan
-  pub blocks : g.blocks ≡ f.blocks
-  pub lender : g.words.ghost_name ≡ f.words.ghost_name
-
 -- A new key brings one more entry and its record; a held one gets the value, and the filter stays; a refusal changes neither.
 abbrev pub PutDone : {K V : Type 0} → (K → List ℕ) → (K → ℕ) → Filter → Filter → Meaning K V → Meaning K V → K → V → Result Stored BookFault → Type 0
 PutDone bytes number f g m n k v (Ok Kept) =

@@ -1,9 +1,10 @@
 //! Replays one list of operations on books over a list and over a grid, and prints the answers and the filter's words.
 #![tactic(auto)]
 
+use book::Book;
 use filter::{Filter, Plan};
 use gridtable::GridTable;
-use history::{Answer, Found, Operation};
+use history::{Answer, Operation};
 use kinds::{Fibonacci, Kern, Pair};
 use listtable::ListTable;
 use replay::{ReplayFault, replay};
@@ -38,16 +39,8 @@ fn operations() -> [Operation<Pair, i16>; 14] {
 /// Prints an answer.
 fn print_answer(rt: &HostRuntime, answer: &Answer<i16>) -> io::Result<()> {
     match answer {
-        Answer::Kept => println!(rt; "kept"),
-        Answer::Changed => println!(rt; "changed"),
-        Answer::Dropped => println!(rt; "dropped"),
-        Answer::Found(Found::Filter) => println!(rt; "none filter"),
-        Answer::Found(Found::Table(None)) => println!(rt; "none table"),
-        Answer::Found(Found::Table(Some(value))) => println!(rt; "{value} table"),
-        Answer::Refused(fault) => {
-            let number = fault.number();
-            println!(rt; "fault {number}")
-        }
+        Ok(told) => println!(rt; "{told}"),
+        Err(fault) => println!(rt; "fault {fault}"),
     }
 }
 
@@ -64,10 +57,7 @@ fn print_answers(
             Ok(())
         }
         Err(ReplayFault::NoMemory) => println!(rt; "no memory"),
-        Err(ReplayFault::Opening(fault)) => {
-            let number = fault.number();
-            println!(rt; "opening fault {number}")
-        }
+        Err(ReplayFault::Opening(fault)) => println!(rt; "opening fault {fault}"),
     }
 }
 
@@ -81,9 +71,14 @@ fn try_book<X: Table<Kern>>(
     requires { X.Table.sound table.old }
 {
     let mut filter = Filter::begin(plan, words);
+    let mut book = Book {
+        filter: &mut filter,
+        table,
+        by: &Fibonacci,
+    };
     print_answers(
         rt,
-        replay::<Kern, X, Fibonacci>(rt.alloc(), &mut filter, table, &Fibonacci, &operations()),
+        replay::<Kern, X, Fibonacci>(rt.alloc(), &mut book, &operations()),
     )?;
     let held = filter.held();
     println!(rt; "held {held}")?;

@@ -3,9 +3,7 @@
 
 ghost use Rattle.examples.specs.Examples.{Examples};
 
-/// The theorem that the filter's calls do on these examples what the specification says. The answer is 0; what counts is the contract.
-pub fn examples() -> u8
+/// The theorem that the filter's calls do on these examples what the specification says. The function does nothing; what counts is the contract.
+pub fn examples()
     ensures { Examples }
-{
-    0
-}
+{}

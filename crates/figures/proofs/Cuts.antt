@@ -1,17 +1,7 @@
 -- The first line of a text.
-use Rattle.std.proofs.Common.{◌≡◌, ℕ, suc, ◌+◌, ◌<◌, List, [], ◌∷◌, ◌++◌, length, get_or, take, drop, sym, refl, ap, ◌∙◌, inl, ⊎_elim, arith, length-append, take-append-drop, length-take-le, get_or-take}
-use Rattle.std.proofs.lemmas.List.{drop_more}
+use Rattle.std.proofs.Common.{◌≡◌, ℕ, suc, ◌<◌, List, [], ◌∷◌, ◌++◌, length, sym, refl, ap, ◌∙◌, ⊎_elim, arith, length-append}
 use Rattle.std.proofs.lemmas.Bool.{ne_eqb}
 use Rattle.figures.specs.Lines.{Clear, Leads, grown, lines_of}
-
--- the line ends at the first byte 10
-pub cut_at : (xs : List ℕ) (i : ℕ) → i < length xs → ((k : ℕ) → k < i → get_or xs k 0 ≡ 10 → ⊥) → get_or xs i 0 ≡ 10 → Leads xs (take i xs) (drop (i + 1) xs)
-cut_at xs i lt clear at =
-    let long : length (take i xs) ≡ i = length-take-le i xs (omega arith) in
-    record {
-      clear = λ k h e. let low : k < i = omega arith in clear k low (sym (get_or-take i xs k 0 low) ∙ e);
-      parts = inl (sym (take-append-drop i xs) ∙ ap (λ l. take i xs ++ l) (rw (drop_more xs i 0 lt, at)));
-    }
 
 -- what follows a line is shorter, so a loop over the lines ends
 pub shorter : (xs line rest : List ℕ) → Leads xs line rest → length rest < length xs

@@ -1,5 +1,4 @@
 pub mod Runs
-pub mod Naturals
 pub mod Weights
 pub mod Pairs
 pub mod Cuts

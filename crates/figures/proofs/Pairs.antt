@@ -12,17 +12,11 @@ spaced_none xs h ds n rest f e = h ds n (32 ∷ rest) f (space_stops rest) e
 pub spaced_other : (xs rest : List ℕ) (v : ℕ) → Read xs v rest → ((ys : List ℕ) → rest ≡ 32 ∷ ys → ⊥) → NoSpaced xs
 spaced_other xs rest v r h ds n tail f e = h tail (same_run r.shown ds rest (32 ∷ tail) r.figure.digits f.digits r.stops (space_stops tail) (sym r.whole ∙ e)).1
 
-pub spaced_read : (xs rest tail : List ℕ) (v : ℕ) → Read xs v rest → rest ≡ 32 ∷ tail → Spaced xs v tail
-spaced_read xs rest tail v r e = (r.shown, r.named, r.figure, r.whole ∙ ap (λ l. r.shown ++ l) e, r.held)
-
 -- what follows the space is the same, however the figure is read
 pub tails : (xs rest tail ds : List ℕ) (v n : ℕ) → Spaced xs v rest → Figure ds n → xs ≡ ds ++ (32 ∷ tail) → rest ≡ tail
 tails xs rest tail ds v n (es, m, g, p, q) f e =
     let same = (same_run es ds (32 ∷ rest) (32 ∷ tail) g.digits f.digits (space_stops rest) (space_stops tail) (sym p ∙ e)).1 in
     cc
-
-pub bad_left : (xs : List ℕ) → NoSpaced xs → (a b : ℕ) (z : ℤ) → PairLine xs a b z → ⊥
-bad_left xs h a b z p = h p.l a _ p.left p.whole
 
 pub bad_right : (xs rest : List ℕ) (v : ℕ) → Spaced xs v rest → NoSpaced rest → (a b : ℕ) (z : ℤ) → PairLine xs a b z → ⊥
 bad_right xs rest v s h a b z p = h p.r b p.v p.right (tails xs rest (p.r ++ (32 ∷ p.v)) p.l v a s p.left p.whole)

@@ -1,19 +1,9 @@
 -- A run of digits and what follows it.
-use Rattle.std.proofs.Common.{◌≡◌, ℕ, ◌-◌, ◌<◌, ◌≤◌, ◌⊎◌, List, [], ◌∷◌, ◌++◌, length, get_or, take, drop, sym, refl, ap, ◌∙◌, subst, ⊎_elim, append-nil, arith, take-append-drop, length-take-le, get_or-take}
+use Rattle.std.proofs.Common.{◌≡◌, ℕ, ◌-◌, ◌<◌, ◌⊎◌, List, [], ◌∷◌, ◌++◌, length, get_or, take, drop, sym, refl, ap, ◌∙◌, subst, ⊎_elim, append-nil, arith}
 use Rattle.std.specs.Str.Parse.{AllDigits}
-use Rattle.std.specs.Char.{digit_value as digitValue}
 use Rattle.std.proofs.lemmas.Str.Parse.{digit_from_value}
-use Rattle.std.proofs.lemmas.List.{drop_more, drop_all}
-use Rattle.std.proofs.lemmas.Bool.Decides.{nat_tests}
 use Rattle.std.proofs.lemmas.Slice.{first_rest}
-use Rattle.std.proofs.str.Laws.{order}
 use Rattle.figures.specs.Figures.{Figure, Stops, Read, NoFigure, NoWhole}
-
-pub digit_value : (c : ℕ) → 48 ≤ c → c ≤ 57 → digitValue c ≡ c - 48
-digit_value c p q = grind (arith, nat_tests)
-
-pub stops_at : (xs : List ℕ) (i : ℕ) → (i < length xs → 48 ≤ get_or xs i 0 → get_or xs i 0 ≤ 57 → ⊥) → Stops (drop i xs)
-stops_at xs i h = ⊎_elim (λ lt. subst Stops (sym (drop_more xs i 0 lt)) (h lt)) (λ ge. subst Stops (sym (drop_all i xs ge)) tt) (order i (length xs))
 
 -- digits, and then what begins with no digit: there is one such cut
 pub same_run : (ds es r s : List ℕ) → AllDigits 10 ds → AllDigits 10 es → Stops r → Stops s → ds ++ r ≡ es ++ s → (ds ≡ es) × (r ≡ s)
@@ -27,16 +17,14 @@ same_run (c ∷ ds) (b ∷ es) r s p q u v e =
     let ones = more.0 in
     (cc, more.1)
 
-pub no_figure : (xs : List ℕ) (i : ℕ) → i ≤ length xs → AllDigits 10 (take i xs) → Stops (drop i xs) → (i ≡ 0) ⊎ ((1 < i) × (get_or xs 0 0 ≡ 48)) → NoFigure xs
-no_figure xs i le p u why ds n rest f v e =
-    let same = (same_run ds (take i xs) rest (drop i xs) f.digits p v u (sym e ∙ sym (take-append-drop i xs))).0 in
-    let long : length ds ≡ i = ap length same ∙ length-take-le i xs le in
+-- no digit comes first, or a zero in front of another digit
+pub no_figure : (xs digits rest : List ℕ) → xs ≡ digits ++ rest → AllDigits 10 digits → Stops rest → (length digits ≡ 0) ⊎ ((1 < length digits) × (get_or digits 0 0 ≡ 48)) → NoFigure xs
+no_figure xs digits rest whole p u why ds n more f v e =
+    let same = (same_run ds digits more rest f.digits p v u (sym e ∙ whole)).0 in
+    let long = ap length same in
     ⊎_elim
     (λ z. omega (arith, f.some))
-    (λ h.
-    let more : 0 < i = omega (arith, h.0) in
-    let first : get_or ds 0 0 ≡ 48 = ap (λ l. get_or l 0 0) same ∙ get_or-take i xs 0 0 more ∙ h.1 in
-    omega (arith, f.lead first, h.0))
+    (λ h. omega (arith, h.0, f.lead (ap (λ l. get_or l 0 0) same ∙ h.1)))
     why
 
 pub no_whole : (xs : List ℕ) → NoFigure xs → NoWhole xs

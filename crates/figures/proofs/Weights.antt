@@ -1,31 +1,49 @@
 -- What a value's bytes say of it.
-use Rattle.std.proofs.Common.{◌≡◌, ℕ, suc, ◌-◌, ◌<◌, ◌≤◌, List, ◌∷◌, ℤ, pos, negsuc, ◌-ℤ◌, subst, arith, w16, w32, to_z, of_z}
+use Rattle.std.proofs.Common.{◌≡◌, ℕ, suc, ◌-◌, ◌<◌, ◌≤◌, List, ◌∷◌, ℤ, pos, negsuc, ◌-ℤ◌, Ok, Err, Result, MatchResult, sym, subst, arith, w64, to_z, of_z}
 use Rattle.std.proofs.lemmas.Int.{ints}
-use Rattle.figures.specs.Figures.{Figure, Whole, NoWhole}
-use Rattle.figures.specs.Amounts.{Amount, Within}
-use Rattle.figures.proofs.Runs.{not_minus}
+use Rattle.figures.specs.declared.FigureFault.{FigureFault}
+use Rattle.figures.specs.declared.FigureFault.TheVariants.{Unreadable, TooLarge}
+use Rattle.figures.specs.Figures.{Figure, Whole}
+use Rattle.figures.specs.Amounts.{Amount, Within, Weighed}
 
--- after a minus: no figure, or that of 0
-pub none_after : (xs ds : List ℕ) → xs ≡ 45 ∷ ds → ((n : ℕ) → Figure ds (suc n) → ⊥) → (z : ℤ) → Amount xs z → ⊥
-none_after xs ds e h (pos n) f = not_minus xs ds n f e
-none_after xs ds e h (negsuc n) (es, p, f) = let same : es ≡ ds = cc in h n (subst (λ l. Figure l (suc n)) same f)
-
--- with no minus: no figure
-pub none_plain : (xs : List ℕ) → ((ds : List ℕ) → xs ≡ 45 ∷ ds → ⊥) → NoWhole xs → (z : ℤ) → Amount xs z → ⊥
-none_plain xs no_sign h (pos n) f = h n f
-none_plain xs no_sign h (negsuc n) (es, p, f) = no_sign es p
-
-pub zero_after : (ds : List ℕ) (v : ℕ) → Whole ds v → v ≡ 0 → (n : ℕ) → Figure ds (suc n) → ⊥
-zero_after ds v (m, f, e) z n g = omega (arith, f.number, g.number)
-
-pub negative : (xs ds : List ℕ) (v : ℕ) → xs ≡ 45 ∷ ds → Whole ds v → 0 < v → v ≤ 32768 → Within (negsuc (v - 1)) × Amount xs (negsuc (v - 1))
-negative xs ds v e (m, f, h) some small = let same : m ≡ suc (v - 1) = omega arith in (omega arith, (ds, e, subst (Figure ds) same f))
-
-pub too_low : (xs ds : List ℕ) (v : ℕ) → xs ≡ 45 ∷ ds → Whole ds v → 32768 < v → (z : ℤ) × (Within z → ⊥) × Amount xs z
+too_low : (xs ds : List ℕ) (v : ℕ) → xs ≡ 45 ∷ ds → Whole ds v → 32768 < v → (z : ℤ) × (Within z → ⊥) × Amount xs z
 too_low xs ds v e (m, f, h) big = let same : m ≡ suc (m - 1) = omega arith in (negsuc (m - 1), λ w. omega arith, (ds, e, subst (Figure ds) same f))
 
-pub too_high : (xs : List ℕ) (v : ℕ) → Whole xs v → 32767 < v → (z : ℤ) × (Within z → ⊥) × Amount xs z
+too_high : (xs : List ℕ) (v : ℕ) → Whole xs v → 32767 < v → (z : ℤ) × (Within z → ⊥) × Amount xs z
 too_high xs v (m, f, h) big = (pos m, λ w. omega arith, f)
 
-pub negated : (n : ℕ) → 0 < n → n ≤ 32768 → to_z w16 (of_z w16 (to_z w32 (of_z w32 (pos 0 -ℤ to_z w32 n)))) ≡ negsuc (n - 1)
-negated n some small = omega (arith, ints)
+-- r is the value of z, or says that it has none
+abbrev pub Valued : ℤ → Result ℤ FigureFault → Type 0
+Valued z r = MatchResult r (λ v. (v ≡ z) × Within z) (λ e. (e ≡ TooLarge) × (Within z → ⊥))
+
+readable : Unreadable ≡ TooLarge → ⊥
+readable e = let z : ◌≡◌ {A = ℕ} 0 1 = cc in omega arith
+
+-- with no minus: the value of the figure
+pub plain : (xs : List ℕ) (v : ℕ) (z : ℤ) (r : Result ℤ FigureFault) → Whole xs v → z ≡ pos v → Valued z r → Weighed xs r
+plain xs v z (Ok x) (m, f, h) is (e, w) =
+    let within : Within (pos v) = subst Within is w in
+    let same : m ≡ v = omega arith in
+    rw (e, is) (within, subst (Figure xs) same f)
+plain xs v z (Err TooLarge) whole is (e, out) =
+    let large : Within (pos v) → ⊥ = λ w. out (subst Within (sym is) w) in
+    too_high xs v whole (omega (arith, large))
+plain xs v z (Err Unreadable) whole is (e, out) = absurd (readable e)
+
+-- after a minus: the value of the figure, turned
+pub signed : (xs ds : List ℕ) (v : ℕ) (z : ℤ) (r : Result ℤ FigureFault) → xs ≡ 45 ∷ ds → Whole ds v → 0 < v → z ≡ negsuc (v - 1) → Valued z r → Weighed xs r
+signed xs ds v z (Ok x) begins (m, f, h) some is (e, w) =
+    let within : Within (negsuc (v - 1)) = subst Within is w in
+    let same : m ≡ suc (v - 1) = omega arith in
+    rw (e, is) (within, (ds, begins, subst (Figure ds) same f))
+signed xs ds v z (Err TooLarge) begins whole some is (e, out) =
+    let large : Within (negsuc (v - 1)) → ⊥ = λ w. out (subst Within (sym is) w) in
+    too_low xs ds v begins whole (omega (arith, large))
+signed xs ds v z (Err Unreadable) begins whole some is (e, out) = absurd (readable e)
+
+-- the numbers as the code has them
+pub kept : (z : ℤ) (n : ℕ) → z ≡ pos n → n ≤ 65536 → to_z w64 (of_z w64 z) ≡ pos n
+kept z n e small = rw e (omega (arith, ints))
+
+pub negated : (z : ℤ) (n : ℕ) → z ≡ pos n → 0 < n → n ≤ 65536 → to_z w64 (of_z w64 (pos 0 -ℤ to_z w64 (of_z w64 z))) ≡ negsuc (n - 1)
+negated z n e some small = rw e (omega (arith, ints))

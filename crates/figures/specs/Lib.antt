@@ -1,3 +1,4 @@
 pub mod Figures
 pub mod Amounts
 pub mod Lines
+pub mod Coming

@@ -5,9 +5,10 @@
 //! Only a value may have a minus, and `-0` is none.
 #![tactic(auto)]
 
-ghost use Rattle.std.specs.Prelude.{◌≡◌, MatchResult};
-ghost use Rattle.figures.specs.Figures.{Read, NoFigure, Whole, NoWhole, Spaced, NoSpaced, Natural};
-ghost use Rattle.figures.specs.Amounts.{Glyphed, Weighed, Paired};
+ghost use Rattle.std.specs.Prelude.{◌≡◌, ◌<◌, ◌≤◌, ◌++◌, MatchResult};
+ghost use Rattle.std.specs.Str.Parse.{AllDigits};
+ghost use Rattle.figures.specs.Figures.{Stops, Read, NoFigure, Whole, NoWhole, Spaced, NoSpaced, Natural};
+ghost use Rattle.figures.specs.Amounts.{Glyphed, Within, Weighed, Paired};
 
 pub mod lines;
 
@@ -18,47 +19,55 @@ pub enum FigureFault {
     TooLarge,
 }
 
+// The digits that the bytes begin with, and what follows them.
+fn leading_digits(bytes: &[u8]) -> (&[u8], &[u8])
+    ensures digits { AllDigits 10 result.0.now }
+    ensures stops { Stops result.1.now }
+    ensures whole { bytes.now ≡ result.0.now ++ result.1.now }
+{
+    let first_other = bytes.iter().position(|b| !b.is_ascii_digit());
+    bytes.split_at(first_other.unwrap_or(bytes.len()))
+}
+
 /// The figure that the bytes begin with, and what follows it. A number past 65,536 is given as 65,536.
 pub fn figure(bytes: &[u8]) -> Result<(u32, &[u8]), FigureFault>
     ensures { MatchResult result (λ p. Read bytes.now p.0 p.1.now) (λ e. (e ≡ FigureFault.Unreadable) × NoFigure bytes.now) }
 {
-    let mut value: u32 = 0;
-    let mut i = 0;
-    while i < bytes.len() && bytes[i] >= b'0' && bytes[i] <= b'9' {
-        value = (value * 10 + (bytes[i] - b'0') as u32).min(65536);
-        i += 1;
+    let (digits, rest) = leading_digits(bytes);
+    match digits {
+        [] | [b'0', _, ..] => Err(FigureFault::Unreadable),
+        _ => Ok((natural(digits).unwrap_or(65536).min(65536) as u32, rest)),
     }
-    if i == 0 || (i > 1 && bytes[0] == b'0') {
-        return Err(FigureFault::Unreadable);
-    }
-    Ok((value, &bytes[i..]))
 }
 
 /// The number of the figure that the bytes are, if it is below 2^64.
 pub fn natural(bytes: &[u8]) -> Option<u64>
     ensures { Natural bytes.now result }
 {
-    let mut number: u64 = 0;
-    for b in bytes {
-        if *b < b'0' || *b > b'9' {
-            return None;
-        }
-        number = number.checked_mul(10)?.checked_add(u64::from(*b - b'0'))?;
+    match bytes {
+        [b'0'] => Some(0),
+        [b'1'..=b'9', ..] => str::from_utf8(bytes).ok()?.parse().ok(),
+        _ => None,
     }
-    if bytes.is_empty() || (bytes.len() > 1 && bytes[0] == b'0') {
-        return None;
+}
+
+/// The glyph number that a number is, if it is at most 65,535.
+pub fn glyph_number(number: u32) -> Result<u16, FigureFault>
+    ensures { MatchResult result (λ g. (g ≡ number) × (number ≤ 65535)) (λ e. (e ≡ FigureFault.TooLarge) × (65535 < number)) }
+{
+    // kept: a rule of the project, that a match with guards tells what is lawful from what is too large.
+    match number {
+        n if n <= 65535 => Ok(n as u16),
+        _ => Err(FigureFault::TooLarge),
     }
-    Some(number)
 }
 
 /// The glyph number that the bytes begin with, and what follows it.
 pub fn glyph(bytes: &[u8]) -> Result<(u16, &[u8]), FigureFault>
     ensures { Glyphed bytes.now result }
 {
-    match figure(bytes)? {
-        (n, rest) if n <= 65535 => Ok((n as u16, rest)),
-        _ => Err(FigureFault::TooLarge),
-    }
+    let (n, rest) = figure(bytes)?;
+    Ok((glyph_number(n)?, rest))
 }
 
 /// A figure with nothing after it: its number, or 65,536 where that is more.
@@ -71,6 +80,17 @@ pub fn whole(bytes: &[u8]) -> Result<u32, FigureFault>
     }
 }
 
+// The value that a number is, if it is from -32,768 to 32,767.
+fn value_number(number: i64) -> Result<i16, FigureFault>
+    ensures { MatchResult result (λ v. (v ≡ number) × Within number) (λ e. (e ≡ FigureFault.TooLarge) × (Within number → ⊥)) }
+{
+    // kept: the same rule.
+    match number {
+        n if (-32768..=32767).contains(&n) => Ok(n as i16),
+        _ => Err(FigureFault::TooLarge),
+    }
+}
+
 /// The value that the bytes are: a figure, or a minus and a figure other than 0.
 pub fn amount(bytes: &[u8]) -> Result<i16, FigureFault>
     ensures { Weighed bytes.now result }
@@ -78,13 +98,9 @@ pub fn amount(bytes: &[u8]) -> Result<i16, FigureFault>
     match bytes {
         [b'-', digits @ ..] => match whole(digits)? {
             0 => Err(FigureFault::Unreadable),
-            n if n <= 32768 => Ok(-(n as i32) as i16),
-            _ => Err(FigureFault::TooLarge),
+            n => value_number(-i64::from(n)),
         },
-        _ => match whole(bytes)? {
-            n if n <= 32767 => Ok(n as i16),
-            _ => Err(FigureFault::TooLarge),
-        },
+        _ => value_number(i64::from(whole(bytes)?)),
     }
 }
 
@@ -105,10 +121,7 @@ pub fn pair_fields(bytes: &[u8]) -> Result<(u16, u16, i16), FigureFault>
     let (left, rest) = spaced(bytes)?;
     let (right, rest) = spaced(rest)?;
     let value = amount(rest)?;
-    match (left, right) {
-        (l, r) if l <= 65535 && r <= 65535 => Ok((l as u16, r as u16, value)),
-        _ => Err(FigureFault::TooLarge),
-    }
+    Ok((glyph_number(left)?, glyph_number(right)?, value))
 }
 
 #[cfg(test)]

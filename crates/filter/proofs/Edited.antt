@@ -1,7 +1,9 @@
 -- One entry more or less, from where it was found to the list that is then held.
-use Rattle.std.proofs.Common.{◌≡◌, ℕ, zero, suc, ◌+◌, ◌-◌, ◌*◌, ◌^◌, ◌<◌, ◌≤◌, true, false, cond, ◌&&◌, eqb, ltb, ◌≢◌, ◌⊎◌, List, [], ◌∷◌, length, get_or, filter, sym, refl, ap, ◌∙◌, subst, ⊎_elim, true≢false, arith}
+use Rattle.std.proofs.Common.{◌≡◌, ℕ, zero, suc, ◌+◌, ◌-◌, ◌*◌, ◌^◌, ◌<◌, ◌≤◌, Bool, true, false, cond, ◌&&◌, eqb, ltb, ◌≢◌, ◌⊎◌, List, [], ◌∷◌, length, get_or, filter, sym, refl, ap, ◌∙◌, subst, ap₂, ⊎_elim, true≢false, mod-lt, arith, pow_pos}
 use Rattle.std.proofs.lemmas.Bool.{cases_eq, cases_lt, cond-true, eq-eqb, ne_eqb, lt-ltb, le-ltb}
 use Rattle.std.proofs.lemmas.List.{length-map}
+use Rattle.words.proofs.Rows.{Words}
+use Rattle.layout.specs.Format.{filter_words}
 use Rattle.layout.specs.Rule.{quotient, remainder, insert, remove, run, many}
 use Rattle.layout.specs.Runs.{remainders}
 use Rattle.layout.specs.Load.{start, FirstFree, FirstIdle}
@@ -11,11 +13,15 @@ use Rattle.layout.proofs.Bags.{find_law}
 use Rattle.layout.proofs.Bounds.{fit_law}
 use Rattle.layout.proofs.Bridge.{layout_law}
 use Rattle.layout.proofs.Edits.{insert_slots_law, remove_slots_law}
-use Rattle.layout.proofs.Inserts.{one_remove}
+use Rattle.layout.proofs.Inserts.{one_remove, sorted_insert, sorted_remove}
 use Rattle.layout.proofs.Loads.{load_step, remove_law}
 use Rattle.blocks.specs.Views.{occupied_bit_in, remainder_in, offset_in, Shows}
-use Rattle.filter.specs.Meaning.{held_in, Sound}
+use Rattle.blocks.proofs.Forms.{words_from_views}
+use Rattle.filter.specs.Meaning.{size_of, held_in, Sound}
+use Rattle.filter.specs.Locating.{Placed}
 use Rattle.filter.specs.Editing.{EntryPut, EntryGone}
+use Rattle.filter.specs.Arrivals.{before, Arrives, Departs}
+use Rattle.filter.proofs.Held.{is_sorted}
 use Rattle.filter.proofs.Editings.{put_shows, gone_shows}
 use Rattle.filter.proofs.Locatings.{within, load_is}
 
@@ -28,6 +34,18 @@ count_some v [] j g e = absurd (omega arith)
 count_some v (x ∷ l) zero g e = rw (eq-eqb x v e) (omega arith)
 count_some v (x ∷ l) (suc j) g e =
     elim (eqb x v) as (λ b. 0 < length (cond b (x ∷ filter (λ y. eqb y v) l) (filter (λ y. eqb y v) l))) [ true ↦ omega arith | false ↦ count_some v l j (omega arith) e ]
+
+pub remainder_low : (r p : ℕ) → remainder r p < 2 ^ r
+unfolding remainder
+remainder_low r p = mod-lt p (pow_pos r)
+
+same_eqb : (a b c d : ℕ) → (a ≡ b → c ≡ d) → (c ≡ d → a ≡ b) → eqb a b ≡ eqb c d
+same_eqb a b c d to back =
+    ⊎_elim (λ (e : a ≡ b). eq-eqb a b e ∙ sym (eq-eqb c d (to e))) (λ (e : a ≢ b). ne_eqb a b e ∙ sym (ne_eqb c d (λ z. e (back z)))) (cases_eq a b)
+
+same_ltb : (a b c d : ℕ) → (a < b → c < d) → (b ≤ a → d ≤ c) → ltb a b ≡ ltb c d
+same_ltb a b c d to back =
+    ⊎_elim (λ (l : a < b). lt-ltb a b l ∙ sym (lt-ltb c d (to l))) (λ (l : b ≤ a). le-ltb a b l ∙ sym (le-ltb c d (back l))) (cases_lt a b)
 
 module _ (r blocks : ℕ) (ws : List ℕ) (sound : Sound r blocks ws) where
   -- offsets are small
@@ -95,73 +113,120 @@ module _ (r blocks : ℕ) (ws : List ℕ) (sound : Sound r blocks ws) where
 
   -- ---- an entry more
 
+  -- where the search in the run stopped, the entry would come
   module _ (p S T P : ℕ) (starts : S ≡ start (many r (held_in r blocks ws)) (quotient r p)) (stops : T ≡ S + many r (held_in r blocks ws) (quotient r p))
       (lo : S ≤ P) (hi : P ≤ T) (below : (k : ℕ) → S ≤ k → k < P → remainder_in r ws k < remainder r p) (here : P < T → remainder r p ≤ remainder_in r ws P) where
-    pub put_fit : Fit (P - S) (remainder r p) (remainders r (held_in r blocks ws) (quotient r p))
+    put_fit : Fit (before r (held_in r blocks ws) p P) (remainder r p) (remainders r (held_in r blocks ws) (quotient r p))
     put_fit =
         let c = quotient r p in
-        let j = P - S in
+        let j : ℕ = before r (held_in r blocks ws) p P in
         (fit_law r (held_in r blocks ws) sound.rising c).2 j (remainder r p) (omega arith)
         (λ l. let at : start (many r (held_in r blocks ws)) c + (j - 1) ≡ P - 1 = omega arith in
         omega (arith, rem_at c (j - 1) (omega arith), ap (remainder_in r ws) at, below (P - 1) (omega arith) (omega arith)))
         (λ l. let at : start (many r (held_in r blocks ws)) c + j ≡ P = omega arith in
         omega (arith, rem_at c j l, ap (remainder_in r ws) at, here (omega arith)))
 
-    module _ (u : ℕ) (free : FirstFree (many r (held_in r blocks ws)) (quotient r p) u) where
-      pub put_room : P ≤ u
-      put_room = omega (arith, (insert_slots_law r p (held_in r blocks ws) (P - S) u sound.rising free put_fit).room)
+    pub arrives : (c rem u : ℕ) (ends follows : Bool) → c ≡ quotient r p → rem ≡ remainder r p → FirstFree (many r (held_in r blocks ws)) (quotient r p) u → u < 64 * blocks
+        → ends ≡ eqb P T → follows ≡ (ltb S P && eqb P T) → Arrives r blocks (held_in r blocks ws) p c P u rem ends follows
+    arrives c rem u ends follows ec er free room ee ef =
+        let j : ℕ = before r (held_in r blocks ws) p P in
+        let M : ℕ = many r (held_in r blocks ws) (quotient r p) in
+        let last = same_eqb P T j M (λ e. omega arith) (λ e. omega arith) in
+        let first = same_ltb S P 0 j (λ l. omega arith) (λ l. omega arith) in
+        record {
+          its_quotient = ec;
+          its_remainder = er;
+          from = omega arith;
+          fits = put_fit;
+          last = ee ∙ last;
+          more = ef ∙ ap₂ (λ a b. a && b) first last;
+          first_free = free;
+          below = room;
+        }
 
-      pub put_result : (vs : List ℕ)
-          → EntryPut r ws vs (quotient r p) P u (remainder r p) (eqb P T) (ltb S P && eqb P T)
-          → Shows r vs (insert p (held_in r blocks ws))
-      put_result vs put =
-          let c = quotient r p in
-          let j : ℕ = P - S in
-          let at : P ≡ start (many r (held_in r blocks ws)) c + j = omega arith in
-          let last : eqb P T ≡ eqb j (many r (held_in r blocks ws) c) =
-          ⊎_elim (λ (e : P ≡ T). eq-eqb P T e ∙ sym (eq-eqb j (many r (held_in r blocks ws) c) (omega arith))) (λ (e : P ≢ T). ne_eqb P T e ∙ sym (ne_eqb j (many r (held_in r blocks ws) c) (λ z. e (omega arith)))) (cases_eq P T) in
-          let first : ltb S P ≡ ltb 0 j =
-          ⊎_elim (λ (g : S < P). lt-ltb S P g ∙ sym (lt-ltb 0 j (omega arith))) (λ (g : P ≤ S). le-ltb S P g ∙ sym (le-ltb 0 j (omega arith))) (cases_lt S P) in
-          let put1 = subst (λ b. EntryPut r ws vs c P u (remainder r p) b (ltb S P && b)) last put in
-          let put2 = subst (λ b. EntryPut r ws vs c P u (remainder r p) (eqb j (many r (held_in r blocks ws) c)) (b && eqb j (many r (held_in r blocks ws) c))) first put1 in
-          let put3 = subst (λ x. EntryPut r ws vs c x u (remainder r p) (eqb j (many r (held_in r blocks ws) c)) (ltb 0 j && eqb j (many r (held_in r blocks ws) c))) at put2 in
-          put_shows r p (held_in r blocks ws) ws vs j u sound.rising sound.shows free put_fit put3
+  module _ (p c s free rem : ℕ) (ends follows : Bool) (a : Arrives r blocks (held_in r blocks ws) p c s free rem ends follows) where
+    pub put_room : (c ≤ s) × (s ≤ free)
+    put_room =
+        let law = (insert_slots_law r p (held_in r blocks ws) (before r (held_in r blocks ws) p s) free sound.rising a.first_free a.fits).room in
+        (omega (arith, a.its_quotient, a.from), omega (arith, a.from, law))
+
+    put_result : (vs : List ℕ) → EntryPut r ws vs c s free rem ends follows → Shows r vs (insert p (held_in r blocks ws))
+    put_result vs put =
+        let ps = held_in r blocks ws in
+        let j : ℕ = before r ps p s in
+        let at : s ≡ start (many r ps) (quotient r p) + j = omega (arith, a.from) in
+        let put1 = subst (λ x. EntryPut r ws vs x s free rem ends follows) a.its_quotient put in
+        let put2 = subst (λ x. EntryPut r ws vs (quotient r p) s free x ends follows) a.its_remainder put1 in
+        let put3 = subst (λ b. EntryPut r ws vs (quotient r p) s free (remainder r p) b follows) a.last put2 in
+        let put4 = subst (λ b. EntryPut r ws vs (quotient r p) s free (remainder r p) (eqb j (many r ps (quotient r p))) b) a.more put3 in
+        let put5 = subst (λ x. EntryPut r ws vs (quotient r p) x free (remainder r p) (eqb j (many r ps (quotient r p))) (ltb 0 j && eqb j (many r ps (quotient r p)))) at put4 in
+        put_shows r p ps ws vs j free sound.rising sound.shows a.first_free a.fits put5
+
+    -- so the words are the layout of the longer list
+    pub put_words : (vs : List ℕ) → 0 < r → Words vs → length vs ≡ size_of r blocks → EntryPut r ws vs c s free rem ends follows
+        → vs ≡ filter_words r blocks (insert p (held_in r blocks ws))
+    put_words vs pos all sized put =
+        let ps = held_in r blocks ws in
+        let shows = put_result vs put in
+        words_from_views r (insert p ps) pos vs all (subst (Shows r vs) (sym (is_sorted (insert p ps) (sorted_insert p ps sound.rising))) shows) blocks sized
 
   -- ---- an entry less
 
-  module _ (p S T P t : ℕ) (starts : S ≡ start (many r (held_in r blocks ws)) (quotient r p)) (stops : T ≡ S + many r (held_in r blocks ws) (quotient r p))
-      (lo : S ≤ P) (hi : P < T) (found : get_or (remainders r (held_in r blocks ws) (quotient r p)) (P - S) 0 ≡ remainder r p) (idle : FirstIdle (many r (held_in r blocks ws)) (quotient r p) t) where
-    pub gone_room : P ≤ t - 1
+  -- an entry that was found, and the first idle slot after its quotient
+  pub departs : (p c S T P t : ℕ) (follows only : Bool) → Placed r (held_in r blocks ws) p c S T P → FirstIdle (many r (held_in r blocks ws)) (quotient r p) t → t ≤ 64 * blocks
+      → follows ≡ (ltb S P && eqb (P + 1) T) → only ≡ eqb (S + 1) T → Departs r blocks (held_in r blocks ws) p c P (t - 1) follows only
+  departs p c S T P t follows only w idle room ef eo =
+      let j : ℕ = before r (held_in r blocks ws) p P in
+      let M : ℕ = many r (held_in r blocks ws) (quotient r p) in
+      let starts = w.starts in
+      let stops = w.stops in
+      let lo = w.in_run.from in
+      let hi = w.in_run.below in
+      let same : P - S ≡ j = omega arith in
+      let last = same_eqb (P + 1) T (suc j) M (λ e. omega arith) (λ e. omega arith) in
+      let single = same_eqb (S + 1) T M 1 (λ e. omega arith) (λ e. omega arith) in
+      let first = same_ltb S P 0 j (λ l. omega arith) (λ l. omega arith) in
+      let next : t ≡ suc (t - 1) = omega (arith, idle.from) in
+      record {
+        its_quotient = w.its_quotient;
+        from = lo;
+        in_run = omega arith;
+        found = ap (λ x. get_or (remainders r (held_in r blocks ws) (quotient r p)) x 0) (sym same) ∙ w.found;
+        more = ef ∙ ap₂ (λ a b. a && b) first last;
+        alone = eo ∙ single;
+        idle = subst (FirstIdle (many r (held_in r blocks ws)) (quotient r p)) next idle;
+        below = omega (arith, idle.from);
+      }
+
+  module _ (p c s gap : ℕ) (follows only : Bool) (d : Departs r blocks (held_in r blocks ws) p c s gap follows only) where
+    pub gone_room : (c ≤ s) × (s ≤ gap)
     gone_room =
-        let j : ℕ = P - S in
-        let l : j < many r (held_in r blocks ws) (quotient r p) = omega arith in
-        let one = one_remove r p (held_in r blocks ws) sound.rising j l found in
-        omega (
-          arith,
-          (remove_slots_law r p (held_in r blocks ws) j t sound.rising l found idle).room,
-          (remove_law (many r (held_in r blocks ws)) (many r (remove p (held_in r blocks ws))) (quotient r p) t one idle).before (quotient r p) (omega arith),
-        )
+        let ps = held_in r blocks ws in
+        let j : ℕ = before r ps p s in
+        let one = one_remove r p ps sound.rising j d.in_run d.found in
+        let law = (remove_slots_law r p ps j (suc gap) sound.rising d.in_run d.found d.idle).room in
+        let same = (remove_law (many r ps) (many r (remove p ps)) (quotient r p) (suc gap) one d.idle).before (quotient r p) (omega arith) in
+        (omega (arith, d.its_quotient, d.from), omega (arith, d.from, law, same))
 
-    pub gone_waits : (b : ℕ) → quotient r p < 64 * b → 64 * b ≤ t - 1 → 0 < offset_in r ws b
-    gone_waits b l g = omega (arith, idle.waits (64 * b) l (omega (arith, idle.from)), load_is r blocks ws sound (64 * b), sound.shows.offsets b)
+    pub gone_waits : (b : ℕ) → c < 64 * b → 64 * b ≤ gap → 0 < offset_in r ws b
+    gone_waits b l g = omega (arith, d.its_quotient, d.idle.waits (64 * b) (omega (arith, d.its_quotient)) (omega arith), load_is r blocks ws sound (64 * b), sound.shows.offsets b)
 
-    pub gone_result : (vs : List ℕ)
-        → EntryGone r ws vs (quotient r p) P (t - 1) (ltb S P && eqb (P + 1) T) (eqb (S + 1) T)
-        → Shows r vs (remove p (held_in r blocks ws))
+    pub gone_there : 0 < count p (held_in r blocks ws)
+    gone_there = one_there p (before r (held_in r blocks ws) p s) d.in_run d.found
+
+    gone_result : (vs : List ℕ) → EntryGone r ws vs c s gap follows only → Shows r vs (remove p (held_in r blocks ws))
     gone_result vs gone =
-        let c = quotient r p in
-        let j : ℕ = P - S in
-        let M : ℕ = many r (held_in r blocks ws) c in
-        let l : j < M = omega arith in
-        let at : P ≡ start (many r (held_in r blocks ws)) c + j = omega arith in
-        let last : eqb (P + 1) T ≡ eqb (suc j) M =
-        ⊎_elim (λ (e : P + 1 ≡ T). eq-eqb (P + 1) T e ∙ sym (eq-eqb (suc j) M (omega arith))) (λ (e : P + 1 ≢ T). ne_eqb (P + 1) T e ∙ sym (ne_eqb (suc j) M (λ z. e (omega arith)))) (cases_eq (P + 1) T) in
-        let only : eqb (S + 1) T ≡ eqb M 1 =
-        ⊎_elim (λ (e : S + 1 ≡ T). eq-eqb (S + 1) T e ∙ sym (eq-eqb M 1 (omega arith))) (λ (e : S + 1 ≢ T). ne_eqb (S + 1) T e ∙ sym (ne_eqb M 1 (λ z. e (omega arith)))) (cases_eq (S + 1) T) in
-        let first : ltb S P ≡ ltb 0 j =
-        ⊎_elim (λ (g : S < P). lt-ltb S P g ∙ sym (lt-ltb 0 j (omega arith))) (λ (g : P ≤ S). le-ltb S P g ∙ sym (le-ltb 0 j (omega arith))) (cases_lt S P) in
-        let g1 = subst (λ b. EntryGone r ws vs c P (t - 1) (ltb S P && b) (eqb (S + 1) T)) last gone in
-        let g2 = subst (λ b. EntryGone r ws vs c P (t - 1) (b && eqb (suc j) M) (eqb (S + 1) T)) first g1 in
-        let g3 = subst (λ b. EntryGone r ws vs c P (t - 1) (ltb 0 j && eqb (suc j) M) b) only g2 in
-        let g4 = subst (λ x. EntryGone r ws vs c x (t - 1) (ltb 0 j && eqb (suc j) M) (eqb M 1)) at g3 in
-        (gone_shows r p (held_in r blocks ws) ws vs j t sound.rising sound.shows l found idle g4)
+        let ps = held_in r blocks ws in
+        let j : ℕ = before r ps p s in
+        let M : ℕ = many r ps (quotient r p) in
+        let at : s ≡ start (many r ps) (quotient r p) + j = omega (arith, d.from) in
+        let g1 = subst (λ x. EntryGone r ws vs x s gap follows only) d.its_quotient gone in
+        let g2 = subst (λ b. EntryGone r ws vs (quotient r p) s gap b only) d.more g1 in
+        let g3 = subst (λ b. EntryGone r ws vs (quotient r p) s gap (ltb 0 j && eqb (suc j) M) b) d.alone g2 in
+        let g4 = subst (λ x. EntryGone r ws vs (quotient r p) x gap (ltb 0 j && eqb (suc j) M) (eqb M 1)) at g3 in
+        gone_shows r p ps ws vs j (suc gap) sound.rising sound.shows d.in_run d.found d.idle (subst (λ x. EntryGone r ws vs (quotient r p) (start (many r ps) (quotient r p) + j) x (ltb 0 j && eqb (suc j) M) (eqb M 1)) (omega arith) g4)
+
+    pub gone_words : (vs : List ℕ) → 0 < r → Words vs → length vs ≡ size_of r blocks → EntryGone r ws vs c s gap follows only → vs ≡ filter_words r blocks (remove p (held_in r blocks ws))
+    gone_words vs pos all sized gone =
+        let ps = held_in r blocks ws in
+        words_from_views r (remove p ps) pos vs all (subst (Shows r vs) (sym (is_sorted (remove p ps) (sorted_remove p ps sound.rising))) (gone_result vs gone)) blocks sized

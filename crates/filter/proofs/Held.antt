@@ -2,7 +2,7 @@
 use Rattle.std.proofs.Common.{◌≡◌, ℕ, zero, suc, ◌+◌, ◌-◌, ◌*◌, ◌/◌, ◌^◌, ◌<◌, ◌≤◌, ◌⊎◌, List, [], ◌++◌, length, get_or, take, replicate, sym, ap, ◌∙◌, subst, inl, inr, ⊎_elim, mul-le-mul_right, div-mul-le_self, arith, shr_lt}
 use Rattle.std.specs.List.{AllByRecursion as Every}
 use Rattle.std.proofs.ByRecursion.{All-get_or, All-from_get_or}
-use Rattle.std.proofs.lemmas.List.{take-append-le, length-replicate, length-take, take_all}
+use Rattle.std.proofs.lemmas.List.{take-append-le, length-replicate, take_all}
 use Rattle.std.proofs.lemmas.List.FromFn.{length-map-range_with_len}
 use Rattle.std.proofs.lemmas.Bool.{cases_lt}
 use Rattle.words.proofs.Rows.{Words}
@@ -14,7 +14,7 @@ use Rattle.layout.proofs.Rooms.{any_order_law, bound_law}
 use Rattle.blocks.specs.Views.{Shows}
 use Rattle.blocks.proofs.Forms.{words_from_views, views_from_words}
 use Rattle.blocks.proofs.Readings.{read_back, zeros_show, word_none}
-use Rattle.filter.specs.Meaning.{size_of, entries_of, Sound}
+use Rattle.filter.specs.Meaning.{size_of, held_in, entries_of, Sound}
 
 pub sorted_is : (ps : List ℕ) → sorted ps ≡ ps → Sorted ps
 sorted_is ps e = subst Sorted e (sorted_sorted ps)
@@ -73,7 +73,7 @@ module _ (r blocks : ℕ) (pos : 0 < r) (few : blocks ≤ 16640) where
       small k = omega (arith, word_none (size_of r blocks) k)
 
   module _ (ps tail ws : List ℕ) (order : sorted ps ≡ ps) (room : Roomy (64 * blocks) r ps) (is : ws ≡ filter_words r blocks ps ++ tail) where
-    pub own_is : take (size_of r blocks) ws ≡ filter_words r blocks ps
+    own_is : take (size_of r blocks) ws ≡ filter_words r blocks ps
     own_is =
         ap (take (size_of r blocks)) is
         ∙ take-append-le (size_of r blocks) (filter_words r blocks ps) tail (omega (arith, words_length r blocks ps))
@@ -114,16 +114,13 @@ facts q r blocks held ps tail ws pos sized order room narrow count is =
       counted = count ∙ ap length (sym e);
     }
 
--- the words of the blocks of a filter are sound
-pub own_sound : (q r blocks held : ℕ) (ws : List ℕ) → 0 < r → Facts q r blocks held ws → Sound r blocks (take (size_of r blocks) ws)
-own_sound q r blocks held ws pos h =
-    let few : blocks ≤ 16640 = omega (arith, h.sized) in
-    let room : size_of r blocks ≤ length ws = subst (λ b. size_of r b ≤ length ws) (sym h.sized) (size_room r (length ws)) in
-    record {
-      few = few;
-      sized = length-take (size_of r blocks) ws ∙ omega arith;
-      rising = sorted_is (entries_of r blocks ws) h.rising;
-      roomy = h.roomy;
-      shows = subst (Shows r (take (size_of r blocks) ws)) h.rising
-          (views_from_words r (entries_of r blocks ws) pos blocks (subst (Roomy (64 * blocks) r) (sym h.rising) h.roomy) (omega arith) (take (size_of r blocks) ws) h.laid);
-    }
+-- words that are the layout of the list that they hold are sound
+pub sound_words : (r blocks : ℕ) (ws : List ℕ) → 0 < r → blocks ≤ 16640 → ws ≡ filter_words r blocks (held_in r blocks ws) → sorted (held_in r blocks ws) ≡ held_in r blocks ws
+    → Roomy (64 * blocks) r (held_in r blocks ws) → Sound r blocks ws
+sound_words r blocks ws pos few laid rising roomy = record {
+  few = few;
+  sized = ap length laid ∙ words_length r blocks (held_in r blocks ws);
+  rising = sorted_is (held_in r blocks ws) rising;
+  roomy = roomy;
+  shows = subst (Shows r ws) rising (views_from_words r (held_in r blocks ws) pos blocks (subst (Roomy (64 * blocks) r) (sym rising) roomy) (omega arith) ws laid);
+}

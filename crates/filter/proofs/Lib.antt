@@ -5,3 +5,4 @@ pub mod Locatings
 pub mod Writings
 pub mod Edited
 pub mod Slotting
+pub mod Sounds

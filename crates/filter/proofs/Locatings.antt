@@ -31,7 +31,7 @@ module _ (r blocks : ℕ) (ws : List ℕ) (sound : Sound r blocks ws) where
   pub ends : Ends count (runend_in r ws)
   ends x s lo hi = sound.shows.runends s ∙ (layout_law r (held_in r blocks ws) sound.rising).ends x s lo hi
 
-  pub occupied_is : occupied_bit_in r ws ≡ busy count
+  occupied_is : occupied_bit_in r ws ≡ busy count
   occupied_is = fun_ext sound.shows.occupied
 
   pub tally_is : (n : ℕ) → tally (occupied_bit_in r ws) n ≡ tally (busy count) n

@@ -33,11 +33,11 @@ module _ (m end : ℕ → ℕ) (ends : Ends m end) where
     run_end : start m (suc x) ≡ start m x + m x
     run_end = omega (arith, in_run.from, in_run.below, load_step m x)
 
-    pub owner_busy : busy m x ≡ 1
+    owner_busy : busy m x ≡ 1
     owner_busy = cond-true (ltb 0 (m x)) 1 0 (lt-ltb 0 (m x) (omega (arith, in_run.from, in_run.below)))
 
     -- no run ends between the start of that run and the slot
-    pub owner_rank : tally end s ≡ tally (busy m) x
+    owner_rank : tally end s ≡ tally (busy m) x
     owner_rank =
         let last : ℕ = (start m x + m x) - 1 in
         let z : suc last ≡ start m (suc x) = omega (arith, in_run.from, in_run.below, run_end) in
@@ -56,7 +56,7 @@ module _ (m end : ℕ → ℕ) (ends : Ends m end) where
         )
 
     -- the quotient is one of its home block
-    pub owner_home : (a : ℕ) → HomeBlock m s a → (64 * a ≤ x) × (x < 64 * a + 64)
+    owner_home : (a : ℕ) → HomeBlock m s a → (64 * a ≤ x) × (x < 64 * a + 64)
     owner_home a home = (
       ⊎_elim (λ (l : x < 64 * a). absurd (omega (arith, in_run.below, run_end, home.from, start_mono m (suc x) (64 * a) l))) (λ (l : 64 * a ≤ x). l) (cases_lt x (64 * a)),
       ⊎_elim (λ (l : x < 64 * (a + 1)). omega arith) (λ (l : 64 * (a + 1) ≤ x). absurd (omega (arith, in_run.from, home.below, start_mono m (64 * (a + 1)) x l))) (cases_lt x (64 * (a + 1))),

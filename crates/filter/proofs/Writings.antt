@@ -1,11 +1,12 @@
 -- The writes of one entry, one after another, and what they make of the slots.
-use Rattle.std.proofs.Common.{◌≡◌, ℕ, suc, ◌+◌, ◌-◌, ◌*◌, ◌/◌, ◌^◌, ◌<◌, ◌≤◌, Bool, true, false, cond, not, ◌&&◌, eqb, ltb, leb, ◌≢◌, List, sym, refl, ap, ◌∙◌, ⊎_elim, arith}
-use Rattle.std.proofs.lemmas.Bool.{cases_eq, cases_lt, and_left, and_parts, ltb-true, leb-true, cond-true, cond-false, eq-eqb, ne_eqb, lt-ltb, le-ltb, le-leb, lt-leb}
+use Rattle.std.proofs.Common.{◌≡◌, ℕ, suc, ◌+◌, ◌-◌, ◌*◌, ◌/◌, ◌^◌, ◌<◌, ◌≤◌, Bool, true, false, cond, not, ◌&&◌, eqb, ltb, leb, ◌≢◌, List, length, sym, refl, ap, ◌∙◌, ⊎_elim, mul-le-mul_right, arith}
+use Rattle.std.proofs.lemmas.Bool.{cases_eq, cases_lt, and_left, and_right, and_parts, ltb-true, leb-true, cond-true, cond-false, eq-eqb, ne_eqb, lt-ltb, le-ltb, le-leb, lt-leb}
 use Rattle.layout.specs.Rule.{bit}
-use Rattle.blocks.specs.Views.{occupied_bit_in, runend_in, offset_in, remainder_in}
+use Rattle.blocks.specs.Views.{word_index, place_of, occupied_bit_in, runend_in, offset_in, remainder_in}
+use Rattle.blocks.proofs.Parts.{head_inside, slot_inside}
 use Rattle.blocks.specs.Writes.{WroteOccupied, WroteRunend, WroteRemainder}
-use Rattle.blocks.specs.Moves.{MovedUp, MovedDown, ChangedOffsets, raised, lowered}
-use Rattle.filter.specs.Editing.{EntryPut, EntryGone, MarkedBefore}
+use Rattle.blocks.specs.Moves.{Within, MovedUp, MovedDown, ChangedOffsets, raised, lowered}
+use Rattle.filter.specs.Editing.{EntryPut, EntryGone}
 
 -- the blocks whose first slot lies after c, and not after u
 block_tests : (c u b : ℕ) → (leb (c / 64 + 1) b && ltb b (u / 64 + 1)) ≡ (ltb c (64 * b) && leb (64 * b) u)
@@ -16,12 +17,32 @@ block_tests c u b =
     ⊎_elim (λ (l : u < 64 * b). le-ltb b (u / 64 + 1) (omega arith) ∙ sym (lt-leb (64 * b) u l)) (λ (l : 64 * b ≤ u). lt-ltb b (u / 64 + 1) (omega arith) ∙ sym (le-leb (64 * b) u l)) (cases_lt u (64 * b)) in
     ap (λ x. x && ltb b (u / 64 + 1)) first ∙ ap (λ x. ltb c (64 * b) && x) second
 
+-- the block of a slot lies within the words where that of a later one does
+within_below : (r : ℕ) (ws : List ℕ) (i s : ℕ) → i ≤ s → Within r ws s → Within r ws i
+within_below r ws i s l h =
+    let q : i / 64 + 1 ≤ s / 64 + 1 = omega arith in
+    omega (arith, mul-le-mul_right (r + 3) q)
+
+-- and so do the words of a slot
+pub head_within : (r : ℕ) (ws : List ℕ) (s u m : ℕ) → s ≤ u → m < 3 → Within r ws u → word_index r (s / 64) m < length ws
+head_within r ws s u m l g h = omega (arith, within_below r ws s u l h, head_inside r (s / 64) (s / 64 + 1) m (omega arith) g)
+
+pub slot_within : (r : ℕ) (ws : List ℕ) (s u : ℕ) → s ≤ u → Within r ws u → place_of r s + r ≤ 64 * length ws
+slot_within r ws s u l h = omega (arith, within_below r ws s u l h, slot_inside r s (s / 64 + 1) (omega arith))
+
 -- a bit that is written at p stands there, and elsewhere the old one
 elsewhere : (k p v w : ℕ) → k ≢ p → cond (eqb k p) v w ≡ w
 elsewhere k p v w ne = cond-false (eqb k p) v w (ne_eqb k p ne)
 
 there : (k p v w : ℕ) → k ≡ p → cond (eqb k p) v w ≡ v
 there k p v w e = cond-true (eqb k p) v w (eq-eqb k p e)
+
+-- the runend bit of the slot before p is v now, if `when` holds
+pub record MarkedBefore (r : ℕ) (ws vs : List ℕ) (p : ℕ) (when : Bool) (v : ℕ) : Type 0 where
+  pub occupied : (k : ℕ) → occupied_bit_in r vs k ≡ occupied_bit_in r ws k
+  pub runends : (k : ℕ) → runend_in r vs k ≡ cond (eqb (suc k) p && when) v (runend_in r ws k)
+  pub offsets : (k : ℕ) → offset_in r vs k ≡ offset_in r ws k
+  pub remainders : (k : ℕ) → remainder_in r vs k ≡ remainder_in r ws k
 
 -- the slot before p is another than k
 unmarked : (k p v w : ℕ) (when : Bool) → suc k ≢ p → cond (eqb (suc k) p && when) v w ≡ w
@@ -31,9 +52,33 @@ marked : (k p v w : ℕ) (when : Bool) → suc k ≡ p → cond (eqb (suc k) p &
 marked k p v w when e = ap (λ x. cond (x && when) v w) (eq-eqb (suc k) p e)
 
 -- the slot before p, by its own number and by the next
-pub before_is : (k p : ℕ) → 0 < p → eqb k (p - 1) ≡ eqb (suc k) p
+before_is : (k p : ℕ) → 0 < p → eqb k (p - 1) ≡ eqb (suc k) p
 before_is k p l =
     ⊎_elim (λ (e : suc k ≡ p). eq-eqb k (p - 1) (omega arith) ∙ sym (eq-eqb (suc k) p e)) (λ (e : suc k ≢ p). ne_eqb k (p - 1) (λ z. e (omega arith)) ∙ sym (ne_eqb (suc k) p e)) (cases_eq (suc k) p)
+
+-- the slot before p was marked, or was not to be
+pub marked_one : (r : ℕ) (ws vs : List ℕ) (p v : ℕ) (when : Bool) → 0 < p → when ≡ true → WroteRunend r ws vs (p - 1) v → MarkedBefore r ws vs p when v
+marked_one r ws vs p v when some set wrote = record {
+  occupied = wrote.occupied;
+  runends = λ k. wrote.runends k ∙ ap (λ x. cond x v (runend_in r ws k)) (before_is k p some ∙ with_true (eqb (suc k) p) when set);
+  offsets = wrote.offsets;
+  remainders = wrote.remainders;
+}
+  where
+    and_one : (a : Bool) → a ≡ (a && true)
+    and_one true = refl
+    and_one false = refl
+
+    with_true : (a b : Bool) → b ≡ true → a ≡ (a && b)
+    with_true a b e = and_one a ∙ ap (λ x. a && x) (sym e)
+
+pub marked_none : (r : ℕ) (ws : List ℕ) (p v : ℕ) (when : Bool) → when ≡ false → MarkedBefore r ws ws p when v
+marked_none r ws p v when e = record {
+  occupied = λ k. refl;
+  runends = λ k. sym (cond-false (eqb (suc k) p && when) v (runend_in r ws k) (and_right (eqb (suc k) p) when e));
+  offsets = λ k. refl;
+  remainders = λ k. refl;
+}
 
 module _ (r : ℕ) (w0 w1 w2 w3 w4 w5 w6 : List ℕ) (c p u v : ℕ) where
   pub entry_put : (last follows : Bool) → p ≤ u → ((b : ℕ) → offset_in r w0 b < 2 ^ 32)

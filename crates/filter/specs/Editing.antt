@@ -32,10 +32,3 @@ pub record EntryGone (r : ℕ) (ws vs : List ℕ) (c p u : ℕ) (follows only : 
   pub end_gap : runend_in r vs u ≡ 0
   pub end_above : (k : ℕ) → u < k → runend_in r vs k ≡ runend_in r ws k
   pub offsets : (b : ℕ) → offset_in r vs b + bit (nat_lt c (64 * b) && nat_le (64 * b) u) ≡ offset_in r ws b
-
--- the runend bit of the slot before p is v now, if `when` holds
-pub record MarkedBefore (r : ℕ) (ws vs : List ℕ) (p : ℕ) (when : Bool) (v : ℕ) : Type 0 where
-  pub occupied : (k : ℕ) → occupied_bit_in r vs k ≡ occupied_bit_in r ws k
-  pub runends : (k : ℕ) → runend_in r vs k ≡ cond (suc k == p && when) v (runend_in r ws k)
-  pub offsets : (k : ℕ) → offset_in r vs k ≡ offset_in r ws k
-  pub remainders : (k : ℕ) → remainder_in r vs k ≡ remainder_in r ws k

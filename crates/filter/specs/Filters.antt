@@ -17,8 +17,15 @@ words_of f = f.words.now
 abbrev pub fingerprints : Filter → List ℕ
 fingerprints f = entries_of f.plan.r f.blocks (words_of f)
 
+-- how many slots its blocks have
 abbrev pub slots_of : Filter → ℕ
 slots_of f = 64 * f.blocks
+
+-- plan, blocks and loan are the same
+pub record SameFilter (f g : Filter) : Type 0 where
+  pub plan : g.plan ≡ f.plan
+  pub blocks : g.blocks ≡ f.blocks
+  pub lender : g.words.ghost_name ≡ f.words.ghost_name
 
 -- the words of that many blocks with the layout of a list, and what stood after them
 abbrev pub laid_over : ℕ → ℕ → List ℕ → List ℕ → List ℕ

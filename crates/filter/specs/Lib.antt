@@ -1,8 +1,10 @@
 pub mod Faults
 pub mod Meaning
 pub mod Laying
-pub mod Locating
 pub mod Slots
+pub mod Locating
+pub mod Arrivals
 pub mod Editing
 pub mod Cuts
 pub mod Filters
+pub mod Layouts

@@ -1,5 +1,8 @@
-ghost use Rattle.std.specs.Prelude.{◌≡◌};
+ghost use Rattle.std.specs.Prelude.{◌≡◌, Some, decimal};
 ghost use Rattle.filter.specs.Faults.{number_of};
+
+use std::error::Error;
+use std::fmt;
 
 /// Why a plan or a filter turns a call away.
 #[derive(Clone, Copy, PartialEq, Eq, Debug)]
@@ -27,3 +30,14 @@ impl FilterFault {
         }
     }
 }
+
+// kept: Display is implemented for one type at a time, and no macro of the repository may write impls.
+impl fmt::Display for FilterFault {
+    ghost output = { λ e. Some (decimal (number_of e)) };
+
+    fn fmt<W: fmt::Write>(&self, f: &mut fmt::Formatter<W>) -> fmt::Result {
+        write!(f, "{}", self.number())
+    }
+}
+
+impl Error for FilterFault {}

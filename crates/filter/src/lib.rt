@@ -1,13 +1,13 @@
 //! A rank-and-select quotient filter over lent words.
 #![tactic(auto)]
 
+mod cuts;
 mod editing;
 mod fault;
 mod filter;
+mod laid;
 mod laying;
 mod plan;
-mod runs;
-mod slots;
 #[cfg(test)]
 mod tests;
 

@@ -1,9 +1,12 @@
 ghost use Rattle.std.specs.Prelude.{◌≡◌, ℕ, ◌+◌, ◌-◌, ◌%◌, ◌^◌, ◌<◌, ◌≤◌, MatchResult, nat_lt};
-ghost use Rattle.layout.specs.Rule.{quotient, remainder};
+ghost use Rattle.layout.specs.Format.{block_count};
+ghost use Rattle.filter.specs.Meaning.{size_of};
 
 use crate::fault::FilterFault;
-use blocks::Quotient;
 use words::Width;
+
+/// No filter has more blocks.
+const MOST_BLOCKS: usize = 16640;
 
 /// How a fingerprint is cut: its quotient has q bits, 6 to 20, and its remainder r bits, 1 to 32.
 #[derive(Clone, Copy, PartialEq, Eq, Debug)]
@@ -61,5 +64,19 @@ impl Plan {
         ensures { result ≡ nat_lt fingerprint (2 ^ (self.q + self.r)) }
     {
         fingerprint < 1 << (self.q + self.r)
+    }
+
+    /// How many blocks a filter makes of `n` words.
+    pub(crate) fn blocks_of(self, n: usize) -> u32
+        ensures { result ≡ block_count self.r n }
+    {
+        (n / (self.r as usize + 3)).min(MOST_BLOCKS) as u32
+    }
+
+    /// How many words that many blocks have.
+    pub(crate) fn size_of(self, blocks: u32) -> usize
+        ensures { result ≡ size_of self.r blocks }
+    {
+        blocks as usize * (self.r as usize + 3)
     }
 }

@@ -10,3 +10,10 @@ fn a_newcomer_is_refused_and_nothing_changes(rt: HostRuntime) -> Result<(), Fail
     assert_eq!(rt; words, [1 << 63, 1 << 63, 0, 0, 0, 0, 0, 0, 0, 0, 0, 0]);
     Ok(())
 }
+
+#[test]
+fn a_fault_shows_its_number(rt: HostRuntime) -> Result<(), Fail> {
+    let shown = format!(in rt.alloc(); "{}", FilterFault::NoSlot)?;
+    assert_eq!(rt; shown.as_str(), "20");
+    Ok(())
+}

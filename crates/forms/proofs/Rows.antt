@@ -1,11 +1,11 @@
 -- Rows of numbers, figure by figure.
-use Rattle.std.proofs.Common.{◌≡◌, ℕ, ◌-◌, ◌<◌, ◌≤◌, List, [], ◌∷◌, ◌++◌, length, get_or, take, drop, codes, sym, refl, ap, ◌∙◌, subst, append_assoc, arith, length-append, length-drop, length-take}
+use Rattle.std.proofs.Common.{◌≡◌, ℕ, ◌-◌, ◌<◌, ◌≤◌, List, [], ◌∷◌, ◌++◌, length, get_or, take, drop, codes, Option, sym, refl, ap, ◌∙◌, subst, append_assoc, arith, length-append, length-drop, length-take}
 use Rattle.std.proofs.lemmas.List.{take_rest}
 use Rattle.std.proofs.lemmas.Str.Parse.{digit_from_value}
 use Rattle.figures.specs.Figures.{Figure, Stops, Read, NoFigure}
 use Rattle.figures.proofs.Runs.{same_run, space_stops}
 use Rattle.forms.specs.declared.row.Row.{Row}
-use Rattle.forms.specs.Rows.{Series, Numbers, Ends, top, kept, one, longer, Keeps, Rowed, NoRow}
+use Rattle.forms.specs.Rows.{Series, Numbers, Ends, Held, Rowed, NoRow}
 
 -- what follows the space after a figure is shorter
 pub shorter : (xs rest : List ℕ) (v : ℕ) → Read xs v rest → length (take (length rest - 1) (drop 1 rest)) < length xs
@@ -29,37 +29,24 @@ ends_at rest stops h = record { stops = stops; apart = apart }
         let second : get_or rest 1 0 ≡ c = ap (λ l. get_or l 1 0) e in
         h (omega (arith, ap length e)) (ap (λ l. get_or l 0 0) e) (omega arith) (omega arith)
 
-keeps_one : (v n : ℕ) → v ≡ kept n → Keeps (one v) (n ∷ [])
-unfolding top
-keeps_one v n e = record { first = ap (λ k. k ∷ 0 ∷ 0 ∷ 0 ∷ 0 ∷ []) e; count = refl; largest = omega arith }
-
-keeps_longer : (v n : ℕ) (row : Row) (ns : List ℕ) → v ≡ kept n → Keeps row ns → Keeps (longer v row) (n ∷ ns)
-unfolding top
-keeps_longer v n row ns e k =
-    record {
-      first = rw k.first (ap (λ x. x ∷ kept (get_or ns 0 0) ∷ kept (get_or ns 1 0) ∷ kept (get_or ns 2 0) ∷ kept (get_or ns 3 0) ∷ []) e);
-      count = omega (arith, k.count);
-      largest = omega (arith, k.largest);
-    }
-
-pub row_alone : (xs rest : List ℕ) (v : ℕ) → Read xs v rest → Ends rest → Rowed xs (one v) rest
+pub row_alone : (xs rest : List ℕ) (v : ℕ) (row : Option Row) → (r : Read xs v rest) → Ends rest → Held row (r.named ∷ []) → Rowed xs row rest
 unfolding Series
-row_alone xs rest v r ends = record { numbers = r.named ∷ []; shown = r.shown; written = r.figure; whole = r.whole; ends = ends; keeps = keeps_one v r.named r.held }
+row_alone xs rest v row r ends held = record { numbers = r.named ∷ []; shown = r.shown; written = r.figure; whole = r.whole; ends = ends; held = held }
 
 joined : (ds row : List ℕ) (n : ℕ) (ns : List ℕ) → Figure ds n → Numbers row ns → Numbers (ds ++ (32 ∷ row)) (n ∷ ns)
 unfolding Series
 joined ds row n [] f h = absurd h
 joined ds row n (m ∷ ms) f h = (ds, row, f, refl, h)
 
-pub row_more : (xs rest more tail : List ℕ) (v : ℕ) (row : Row) → Read xs v rest → rest ≡ 32 ∷ more → Rowed more row tail → Rowed xs (longer v row) tail
-row_more xs rest more tail v row r e h =
+pub row_more : (xs rest more tail : List ℕ) (v : ℕ) (row longer : Option Row) → (r : Read xs v rest) → rest ≡ 32 ∷ more → Rowed more row tail → ((ns : List ℕ) → Held row ns → Held longer (r.named ∷ ns)) → Rowed xs longer tail
+row_more xs rest more tail v row longer r e h held =
     record {
       numbers = r.named ∷ h.numbers;
       shown = r.shown ++ (32 ∷ h.shown);
       written = joined r.shown h.shown r.named h.numbers r.figure h.written;
       whole = r.whole ∙ ap (λ l. r.shown ++ l) (e ∙ ap (λ l. 32 ∷ l) h.whole) ∙ sym (append_assoc r.shown (32 ∷ h.shown) tail);
       ends = h.ends;
-      keeps = keeps_longer v r.named row h.numbers r.held h.keeps;
+      held = held h.numbers h.held;
     }
 
 -- the figure that a row begins with, and what follows it: what follows the row, or a space and a row

@@ -1,5 +1,5 @@
 -- What is read of the fields of a form.
-use Rattle.std.specs.Prelude.{◌≡◌, ℕ, ◌≤◌, false, List, length, Ok, Err, Result}
+use Rattle.std.specs.Prelude.{◌≡◌, ℕ, false, List, length, Ok, Err, Result}
 use Rattle.std.specs.List.{AllByRecursion as Every}
 use Rattle.kinds.specs.declared.kern.Pair.{Pair}
 use Rattle.kinds.specs.declared.sequence.Sequence.{Sequence}
@@ -7,12 +7,8 @@ use Rattle.kinds.specs.declared.ligature.KeyFault.TheVariants.{BadSequence}
 use Rattle.kinds.specs.Sequences.{glyphs_of, two_to_four}
 use Rattle.forms.specs.declared.fault.LineFault.{LineFault}
 use Rattle.forms.specs.declared.fault.LineFault.TheVariants.{LongLine, Unreadable, TooLarge, Key}
-use Rattle.forms.specs.Rows.{Numbers}
+use Rattle.forms.specs.Rows.{Numbers, Glyph}
 use Rattle.forms.specs.Shapes.{Couple, Joined}
-
--- a glyph number
-abbrev pub Glyph : ℕ → Type 0
-Glyph n = n ≤ 65535
 
 -- of bytes that are to be two glyph numbers
 abbrev pub Coupled : List ℕ → Result Pair LineFault → Type 0

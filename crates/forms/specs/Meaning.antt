@@ -10,7 +10,7 @@ use Rattle.forms.specs.declared.command.Command.{Command}
 use Rattle.forms.specs.declared.command.Command.TheVariants.{Kern, Ligature}
 use Rattle.forms.specs.declared.fault.LineFault.{LineFault}
 use Rattle.forms.specs.declared.fault.LineFault.TheVariants.{LongLine, Unreadable, TooLarge, Key}
-use Rattle.forms.specs.Fields.{Glyph}
+use Rattle.forms.specs.Rows.{Glyph}
 use Rattle.forms.specs.Shapes.{Shape, pair, drop, find, lig, unlig, seek, Written}
 
 -- all numbers are in their ranges

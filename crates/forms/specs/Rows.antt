@@ -1,7 +1,10 @@
 -- Rows of numbers with single spaces between, and what is kept of one.
-use Rattle.std.specs.Prelude.{◌≡◌, ℕ, ◌+◌, ◌≤◌, min, max, List, [], ◌∷◌, ◌++◌, length, ◌≢◌, slice_index}
+use Rattle.std.specs.Prelude.{◌≡◌, ℕ, ◌<◌, ◌≤◌, List, [], ◌∷◌, ◌++◌, length, Some, None, Option, ◌≢◌}
+use Rattle.std.specs.List.{AllByRecursion as Every}
 use Rattle.figures.specs.Figures.{Figure, Stops}
+use Rattle.kinds.specs.Sequences.{glyphs_of}
 use Rattle.forms.specs.declared.row.Row.{Row}
+use Rattle.forms.specs.declared.row.Row.TheVariants.{One, Several, Many}
 
 -- bytes are the figures of n and of the numbers after it, in order, with single spaces between
 unfoldable pub Series : List ℕ → ℕ → List ℕ → Type 0
@@ -18,51 +21,34 @@ pub record Ends (rest : List ℕ) : Type 0 where
   pub stops : Stops rest
   pub apart : (more : List ℕ) → rest ≡ 32 ∷ more → Stops more
 
--- the largest of some numbers
-unfoldable pub top : List ℕ → ℕ
-top [] = 0
-top (n ∷ ns) = max (top ns) n
+-- a glyph number
+abbrev pub Glyph : ℕ → Type 0
+Glyph n = n ≤ 65535
 
--- a number as it is kept
-abbrev pub kept : ℕ → ℕ
-kept n = min n 65536
+-- the glyph number that n is, or none
+abbrev pub Numbered : Option ℕ → ℕ → Type 0
+Numbered None n = 65535 < n
+Numbered (Some g) n = (g ≡ n) × Glyph n
 
--- the row of one number
-abbrev pub one : ℕ → Row
-one n = record { first = n ∷ 0 ∷ 0 ∷ 0 ∷ 0 ∷ []; count = 1; largest = n }
+-- what the row keeps of the numbers: all, where they are four or fewer
+abbrev pub Keeps : Row → List ℕ → Type 0
+Keeps (One a) ns = ns ≡ a ∷ []
+Keeps (Several s) ns = ns ≡ glyphs_of s
+Keeps Many ns = 4 < length ns
 
--- the row with a number more in front
-abbrev pub longer : ℕ → Row → Row
-longer n row =
-    record {
-      first = n ∷ slice_index row.first 0 ∷ slice_index row.first 1 ∷ slice_index row.first 2 ∷ slice_index row.first 3 ∷ [];
-      count = min row.count 4 + 1;
-      largest = max row.largest n;
-    }
-
--- the first five of some numbers, as they are kept
-abbrev pub first_five : List ℕ → List ℕ
-first_five ns = kept (slice_index ns 0) ∷ kept (slice_index ns 1) ∷ kept (slice_index ns 2) ∷ kept (slice_index ns 3) ∷ kept (slice_index ns 4) ∷ []
-
--- what the row keeps of the numbers
-pub record Keeps (row : Row) (ns : List ℕ) : Type 0 where
-  pub first : row.first ≡ first_five ns
-  pub count : row.count ≡ min (length ns) 5
-  pub largest : row.largest ≡ kept (top ns)
-
--- no number kept is above the largest, and they are at most five
-pub record Sound (row : Row) : Type 0 where
-  pub few : row.count ≤ 5
-  pub bound : (k : ℕ) → slice_index row.first k ≤ row.largest
+-- the same, or none where one of the numbers is no glyph number
+abbrev pub Held : Option Row → List ℕ → Type 0
+Held None ns = Every Glyph ns → ⊥
+Held (Some row) ns = Every Glyph ns × Keeps row ns
 
 -- bytes are a row of numbers, as long as it can be, and rest
-pub record Rowed (bytes : List ℕ) (row : Row) (rest : List ℕ) : Type 0 where
+pub record Rowed (bytes : List ℕ) (row : Option Row) (rest : List ℕ) : Type 0 where
   pub numbers : List ℕ
   pub shown : List ℕ
   pub written : Numbers shown numbers
   pub whole : bytes ≡ shown ++ rest
   pub ends : Ends rest
-  pub keeps : Keeps row numbers
+  pub held : Held row numbers
 
 -- bytes begin with no row of numbers
 abbrev pub NoRow : List ℕ → Type 0

@@ -1,12 +1,14 @@
-ghost use Rattle.std.specs.Prelude.{◌≡◌};
+ghost use Rattle.std.specs.Prelude.{◌≡◌, Some, decimal};
 ghost use Rattle.forms.specs.Faults.{number_of, of_figure};
 ghost use Rattle.forms.specs.declared.fault.LineFault.TheVariants.{Key};
 
 use figures::FigureFault;
 use kinds::KeyFault;
+use std::error::Error;
+use std::fmt;
 
 /// Why a line is turned away before a book is asked. Where several hold, the first of them is given.
-#[derive(Clone, Copy, PartialEq, Eq, Debug)]
+#[derive(Clone, Copy, PartialEq, Eq, Debug, Drop)]
 pub enum LineFault {
     /// The line has over 80 bytes, its byte 10 not counted.
     LongLine,
@@ -31,6 +33,18 @@ impl LineFault {
         }
     }
 }
+
+/// The number that a customer sees, as it is printed.
+// kept: Display is implemented for one type at a time, and no macro of the repository may write impls.
+impl fmt::Display for LineFault {
+    ghost output = { λ f. Some (decimal (number_of f)) };
+
+    fn fmt<W: fmt::Write>(&self, f: &mut fmt::Formatter<W>) -> fmt::Result {
+        write!(f, "{}", self.number())
+    }
+}
+
+impl Error for LineFault {}
 
 impl From<FigureFault> for LineFault {
     ghost from_gives = { λ f r. r ≡ of_figure f };

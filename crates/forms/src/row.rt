@@ -1,52 +1,68 @@
 //! Rows of numbers, single spaces between.
-ghost use Rattle.std.specs.Prelude.{◌≡◌, MatchResult};
+ghost use Rattle.std.specs.Prelude.{◌≡◌, ℕ, List, ◌∷◌, length, false, MatchResult};
+ghost use Rattle.kinds.specs.Sequences.{glyphs_of, two_to_four};
+ghost use Rattle.kinds.specs.declared.ligature.KeyFault.TheVariants.{BadSequence};
 ghost use Rattle.figures.specs.declared.FigureFault.TheVariants.{Unreadable};
-ghost use Rattle.forms.specs.Rows.{Rowed, NoRow, one, longer};
+ghost use Rattle.forms.specs.Rows.{Numbered, Keeps, Held, Rowed, NoRow};
 
-use figures::{FigureFault, figure};
+use figures::{FigureFault, figure, glyph_number};
+use kinds::{KeyFault, Sequence};
 
-/// What is kept of a row of numbers: the first five, how many they are, and the largest of all. No sequence has more
-/// than four glyphs, so what follows the fifth number matters only by its size. A number above 65,536 is kept as that.
+/// What is kept of a row of glyph numbers. No sequence has more than four, so none of more is kept.
 #[derive(Clone, Copy)]
-pub(crate) struct Row {
-    pub(crate) first: [u32; 5],
-    pub(crate) count: usize,
-    pub(crate) largest: u32,
+pub(crate) enum Row {
+    /// A row of one number.
+    One(u16),
+    /// A row of two to four.
+    Several(Sequence),
+    /// A row of five or more.
+    Many,
 }
 
-// The row of one number.
-fn alone(n: u32) -> Row
-    ensures { result ≡ one n }
-{
-    Row {
-        first: [n, 0, 0, 0, 0],
-        count: 1,
-        largest: n,
+impl Row {
+    // The row with a glyph number more in front.
+    fn behind(self, glyph: u16) -> Row
+        ensures { (ns : List ℕ) → Keeps self ns → Keeps result (glyph ∷ ns) }
+    {
+        match self {
+            Row::One(a) => Row::Several(Sequence::Two(glyph, a)),
+            Row::Several(Sequence::Two(a, b)) => Row::Several(Sequence::Three(glyph, a, b)),
+            Row::Several(Sequence::Three(a, b, c)) => {
+                Row::Several(Sequence::Four(glyph, a, b, c))
+            }
+            Row::Several(Sequence::Four(..)) | Row::Many => Row::Many,
+        }
+    }
+
+    /// The sequence that the row is, if it has two to four numbers.
+    pub(crate) fn sequence(self) -> Result<Sequence, KeyFault>
+        ensures { MatchResult result (λ s. (ns : List ℕ) → Keeps self ns → ns ≡ glyphs_of s) (λ f. (f ≡ BadSequence) × ((ns : List ℕ) → Keeps self ns → two_to_four (length ns) ≡ false)) }
+    {
+        match self {
+            Row::Several(sequence) => Ok(sequence),
+            Row::One(_) | Row::Many => Err(KeyFault::BadSequence),
+        }
     }
 }
 
-// The row with a number more in front.
-fn behind(n: u32, row: Row) -> Row
-    ensures { result ≡ longer n row }
+// The row with a number more in front, if all are glyph numbers.
+fn longer(glyph: Option<u16>, row: Option<Row>) -> Option<Row>
+    ensures { (n : ℕ) (ns : List ℕ) → Numbered glyph n → Held row ns → Held result (n ∷ ns) }
 {
-    let [a, b, c, d, _] = row.first;
-    Row {
-        first: [n, a, b, c, d],
-        count: row.count.min(4) + 1,
-        largest: row.largest.max(n),
-    }
+    Some(row?.behind(glyph?))
 }
 
-/// The longest row of numbers that the bytes begin with, and what follows it.
-pub(crate) fn row_of(bytes: &[u8]) -> Result<(Row, &[u8]), FigureFault>
+/// The longest row of numbers that the bytes begin with, if all are glyph numbers, and what follows it.
+pub(crate) fn row_of(bytes: &[u8]) -> Result<(Option<Row>, &[u8]), FigureFault>
     ensures { MatchResult result (λ p. Rowed bytes.now p.0 p.1.now) (λ e. (e ≡ Unreadable) × NoRow bytes.now) }
 {
     let (n, rest) = figure(bytes)?;
+    let glyph = glyph_number(n).ok();
     match rest {
         [b' ', b'0'..=b'9', ..] => {
             let (row, rest) = row_of(&rest[1..])?;
-            Ok((behind(n, row), rest))
+            Ok((longer(glyph, row), rest))
         }
-        _ => Ok((alone(n), rest)),
+        _ => Ok((glyph.map(Row::One), rest)),
     }
 }

@@ -1,11 +1,14 @@
 -- What the calls on a grid make of its meaning.
-use Rattle.std.proofs.Common.{◌≡◌, ℕ, ◌+◌, ◌-◌, ◌*◌, ◌%◌, ◌<◌, ◌≤◌, Bool, true, false, cond, ◌&&◌, ltb, leb, ◌⊎◌, List, length, get_or, drop, set, replicate, ℤ, is_some, Some, None, Option, sym, refl, ap, ◌∙◌, subst, inl, inr, arith}
+use Rattle.std.proofs.Common.{◌≡◌, ℕ, ◌+◌, ◌-◌, ◌*◌, ◌%◌, ◌<◌, ◌≤◌, Bool, true, false, cond, ◌&&◌, ltb, leb, ◌⊎◌, List, length, get_or, drop, set, replicate, ℤ, is_some, is_none, Some, None, Option, sym, refl, ap, ◌∙◌, subst, inl, inr, arith}
 use Rattle.std.proofs.lemmas.Nat.{mul-add-lt, div-mul-add, mod-mul-add}
 use Rattle.std.proofs.lemmas.List.{length-set, length-append, length-replicate, length-drop, get_or-set_same, get_or-set_other, get_or_append_left, get_or-replicate, ext_get_or, drop-set-lt}
 use Rattle.std.proofs.lemmas.Bool.{cases_eq, both_ways, ltb-true, leb-true, and_parts}
 use Rattle.std.specs.Str.{bytes_eq}
+use Rattle.std.specs.Bool.{then_some}
+use Rattle.std.specs.Int.{from_bool}
 use Rattle.kinds.specs.declared.kern.Pair.{Pair}
 use Rattle.kinds.specs.Bytes.{pair_bytes}
+use Rattle.kinds.specs.Glyphs.{pair_bytes_one}
 use Rattle.tables.specs.declared.record.Record.{Record}
 use Rattle.tables.specs.Rows.{lookup, count}
 use Rattle.tables.specs.Meaning.{SameFrame, Revalued}
@@ -15,7 +18,7 @@ use Rattle.tables.proofs.Lookups.{Only, lookup_only, lookup_absent}
 use Rattle.tables.proofs.Changes.{revalued_set}
 use Rattle.gridtable.specs.Grids.{side_of, in_square, place_of, pair_at, free_cell, value_of, row_of, grid_rows, grid_meaning, empty_grid, emptied, beyond_grid, HeldPlace}
 use Rattle.gridtable.specs.Propers.{length_rows, row_at, held_at, one_place, pair_within, few_cells, grid_apart}
-use Rattle.gridtable.proofs.Cells.{pair_one, chosen, not_chosen}
+use Rattle.gridtable.proofs.Cells.{chosen, not_chosen}
 
 -- few are held
 pub held_few : (side : ℕ) (cells : List ℤ) (held : ℕ) → side ≤ 1024 → held ≡ count (grid_rows side cells) → held ≤ 1048576
@@ -73,13 +76,13 @@ module _ (side : ℕ) (cells : List ℤ) (p : Pair) (h : in_square side p ≡ tr
   -- the value of a pair is that of its cell
   pub look_pair : lookup pair_bytes (grid_rows side cells) p ≡ value_of (get_or cells (place_of side p) free_cell)
   look_pair =
-      lookup_only pair_bytes pair_one (grid_rows side cells) (place_of side p) p only_pair of_pair
+      lookup_only pair_bytes pair_bytes_one (grid_rows side cells) (place_of side p) p only_pair of_pair
       ∙ ap value_in row_of_pair ∙ row_value p (value_of (get_or cells (place_of side p) free_cell))
 
 -- a pair that is not admitted has none
 pub look_foreign : (side : ℕ) (cells : List ℤ) (p : Pair) → in_square side p ≡ false → lookup pair_bytes (grid_rows side cells) p ≡ None
 look_foreign side cells p h =
-    lookup_absent pair_bytes pair_one (grid_rows side cells) p
+    lookup_absent pair_bytes pair_bytes_one (grid_rows side cells) p
     (λ i r e own. let t = held_at side cells i r e in both_ways (in_square side p) h (ap (in_square side) (sym own ∙ t.1) ∙ pair_within side i t.0))
 
 -- one cell written
@@ -140,14 +143,15 @@ begun n lent side cells s e = subst (λ l. Begun n lent side l) (sym e) (subst (
           freed_cells = refl;
         }
 
--- a cell without a value, and one with a value
-pub no_value : {A : Type 0} (o : Option A) → is_some o ≡ false → o ≡ None
-no_value (Some x) e = absurd (both_ways true e refl)
-no_value None e = refl
-
+-- a cell with a value
 pub a_value : {A : Type 0} (o : Option A) → is_some o ≡ true → (x : A) × (o ≡ Some x)
 a_value (Some x) e = (x, refl)
 a_value None e = absurd (both_ways false refl e)
+
+-- one more is held where the cell was free
+pub one_more : {A : Type 0} (held added : ℕ) (o : Option A) → added ≡ from_bool (is_none o) → held + added ≡ cond (is_some o) held (held + 1)
+one_more held added (Some x) e = let none : added ≡ 0 = e in omega arith
+one_more held added None e = let one : added ≡ 1 = e in omega arith
 
 -- what a call has made of a grid
 pub record Changed (side held' : ℕ) (cells cells' : List ℤ) (p : Pair) (w : Option ℤ) : Type 0 where
@@ -185,11 +189,11 @@ module _ (side : ℕ) (cells : List ℤ) (room : side * side ≤ length cells) (
         frame = record { admits = refl; capacity = refl; places = length_rows side (set cells (place_of side p) v) ∙ sym l };
         beyond = drop-set-lt (side * side) cells (place_of side p) v b;
         revalued = λ q. ap (λ rows. lookup pair_bytes rows q) eq
-            ∙ revalued_set (grid_rows side cells) (place_of side p) p (row_of p (value_of v)) (omega arith) (only_pair side cells p h) (of_pair side cells p h) (row_of_cell p (value_of v)) pair_bytes pair_one (grid_apart side cells) q
+            ∙ revalued_set (grid_rows side cells) (place_of side p) p (row_of p (value_of v)) (omega arith) (only_pair side cells p h) (of_pair side cells p h) (row_of_cell p (value_of v)) pair_bytes pair_bytes_one (grid_apart side cells) q
             ∙ ap (λ w. cond (bytes_eq (pair_bytes p) (pair_bytes q)) w (lookup pair_bytes (grid_rows side cells) q)) (row_value p (value_of v));
       }
 
-  -- a value written
+  -- a value written, where the table holds one more if the cell was free
   pub written : (held : ℕ) (v : ℤ) (at held' : ℕ) (cells' : List ℤ) → value_of v ≡ Some v → held ≡ count (grid_rows side cells) → at ≡ place_of side p → cells' ≡ set cells at v → held' ≡ cond (is_some (value_of (get_or cells at free_cell))) held (held + 1)
       → Changed side held' cells cells' p (Some v)
   written held v at held' cells' is old place e f =
@@ -227,10 +231,10 @@ module _ (side : ℕ) (cells : List ℤ) (room : side * side ≤ length cells) (
   is_held = ap is_some (look_pair side cells p here.0 ∙ ap (λ n. value_of (get_or cells n free_cell)) (sym here.1)) ∙ here.2
 
   -- its cell freed
-  pub taken : (held held' : ℕ) (cells' : List ℤ) → held ≡ count (grid_rows side cells) → cells' ≡ set cells at free_cell → held' ≡ held - 1 → Changed side held' cells cells' p None
-  taken held held' cells' old e f =
+  pub taken : (held : ℕ) → held ≡ count (grid_rows side cells) → Changed side (held - 1) cells (set cells at free_cell) p None
+  taken held old =
       let c = held_clear in
-      subst (λ l. Changed side held' cells l p None) (sym (e ∙ ap (λ n. set cells n free_cell) here.1)) (changed side cells room p here.0 free_cell held' (omega arith))
+      subst (λ n. Changed side (held - 1) cells (set cells n free_cell) p None) (sym here.1) (changed side cells room p here.0 free_cell (held - 1) (omega arith))
 
 -- places as the calls find them
 module _ (side : ℕ) (cells : List ℤ) (p : Pair) where
@@ -241,6 +245,10 @@ module _ (side : ℕ) (cells : List ℤ) (p : Pair) where
   found_value place o e v =
       let t = chosen (in_square side p) (place_of side p) place e in
       v ∙ ap (λ n. value_of (get_or cells n free_cell)) t.1 ∙ sym (look_pair side cells p t.0)
+
+  pub found_held : (place : ℕ) (o : Option ℤ) → Some place ≡ cond (in_square side p) (Some (place_of side p)) None → o ≡ value_of (get_or cells place free_cell) → HeldPlace side cells p (then_some (is_some o) place)
+  found_held place (Some x) e v = let t = chosen (in_square side p) (place_of side p) place e in (t.0, t.1, ap is_some (sym v))
+  found_held place None e v = sym (found_value place None e v)
 
   pub missed_value : None ≡ cond (in_square side p) (Some (place_of side p)) None → lookup pair_bytes (grid_rows side cells) p ≡ None
   missed_value e = look_foreign side cells p (not_chosen (in_square side p) (place_of side p) e)

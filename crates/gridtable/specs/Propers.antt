@@ -60,8 +60,11 @@ pair_within side i h = by_cases (cases_lt 0 side)
 
 -- the glyphs of such a pair are small
 pub row_column : (side i : ℕ) → side ≤ 1024 → i < side * side → i / side < 1024
-row_column side i small h = let t = ltb-true (i / side) side (and_parts (nat_lt (i / side) side) (nat_lt (i % side) side) (pair_within side i h)).0 in omega arith
+row_column side i small h =
+    let t = ltb-true (i / side) side (and_parts (nat_lt (i / side) side) (nat_lt (i % side) side) (pair_within side i h)).0 in
+    omega arith
 
+-- a square has few cells
 pub few_cells : (side : ℕ) → side ≤ 1024 → side * side ≤ 1048576
 few_cells side h = mul-le side side 1024 1024 h h
 

@@ -8,11 +8,10 @@ use Rattle.history.specs.declared.answer.Stored.{Stored}
 use Rattle.history.specs.declared.answer.Stored.TheVariants as stored
 use Rattle.history.specs.declared.answer.Found.{Found}
 use Rattle.history.specs.declared.answer.Found.TheVariants as found
-use Rattle.history.specs.declared.answer.Answer.{Answer}
-use Rattle.history.specs.declared.answer.Answer.TheVariants as answer
+use Rattle.history.specs.declared.answer.Told.TheVariants as told
 use Rattle.history.specs.declared.fault.BookFault.{BookFault}
 use Rattle.history.specs.declared.fault.BookFault.TheVariants.{Filter, Table, StrangeFilter}
-use Rattle.history.specs.Rules.{Terms, Holdings, PutRule, DropRule, FindRule, Rule}
+use Rattle.history.specs.Rules.{Terms, Holdings, PutRule, DropRule, FindRule, Answer, Rule}
 use Rattle.history.proofs.Entries.{Alike, alike_cons, roomy_alike, crowds_alike}
 
 module _ {K V : Type 0} (t : Terms K) (h j : Holdings K V) (value : (k : K) → h.value k ≡ j.value k) (held : h.held ≡ j.held) (entries : Alike h.entries j.entries) where
@@ -49,18 +48,9 @@ module _ {K V : Type 0} (t : Terms K) (h j : Holdings K V) (value : (k : K) → 
   find_same k (found.Table v) (c, e) = (omega (arith, entries (t.fingerprint k)), e ∙ value k)
 
   pub rule_same : (o : Operation K V) (a : Answer V) → Rule t h o a → Rule t j o a
-  rule_same (Put k v) answer.Kept x = put_same k (Ok stored.Kept) x
-  rule_same (Put k v) answer.Changed x = put_same k (Ok stored.Changed) x
-  rule_same (Put k v) (answer.Refused f) x = put_same k (Err f) x
-  rule_same (Put k v) answer.Dropped x = x
-  rule_same (Put k v) (answer.Found f) x = x
-  rule_same (Drop k) answer.Dropped x = drop_same k (Ok tt) x
-  rule_same (Drop k) (answer.Refused f) x = drop_same k (Err f) x
-  rule_same (Drop k) answer.Kept x = x
-  rule_same (Drop k) answer.Changed x = x
-  rule_same (Drop k) (answer.Found f) x = x
-  rule_same (Find k) (answer.Found f) x = find_same k f x
-  rule_same (Find k) answer.Kept x = x
-  rule_same (Find k) answer.Changed x = x
-  rule_same (Find k) answer.Dropped x = x
-  rule_same (Find k) (answer.Refused f) x = x
+  rule_same (Put k v) (Ok (told.Stored s)) x = put_same k (Ok s) x
+  rule_same (Put k v) (Err f) x = put_same k (Err f) x
+  rule_same (Drop k) (Ok told.Dropped) x = drop_same k (Ok tt) x
+  rule_same (Drop k) (Err f) x = drop_same k (Err f) x
+  rule_same (Find k) (Ok (told.Found f)) x = find_same k f x
+  rule_same o a x = x

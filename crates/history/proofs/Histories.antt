@@ -1,13 +1,12 @@
 -- The law over a history, and one event more.
-use Rattle.std.proofs.Common.{◌≡◌, ℕ, ◌+◌, ◌<◌, ◌⊎◌, List, [], ◌∷◌, ◌++◌, length, get_or, take, is_some, Some, None, Option, sym, refl, ap, ◌∙◌, subst, inl, inr, ⊎_elim, arith, length-append}
+use Rattle.std.proofs.Common.{◌≡◌, ℕ, ◌+◌, ◌<◌, ◌⊎◌, List, [], ◌∷◌, ◌++◌, length, get_or, take, is_some, Some, None, Ok, Option, sym, refl, ap, ◌∙◌, subst, inl, inr, ⊎_elim, arith, length-append}
 use Rattle.std.proofs.lemmas.List.{take_more, length-take-le}
 use Rattle.layout.specs.Rule.{bit}
 use Rattle.history.specs.declared.operation.Operation.{Operation}
 use Rattle.history.specs.declared.operation.Operation.TheVariants.{Put, Drop, Find}
 use Rattle.history.specs.declared.answer.Found.TheVariants as found
-use Rattle.history.specs.declared.answer.Answer.{Answer}
-use Rattle.history.specs.declared.answer.Answer.TheVariants.{Kept, Changed, Dropped, Found, Refused}
-use Rattle.history.specs.Rules.{Terms, Rule}
+use Rattle.history.specs.declared.answer.Told.TheVariants.{Stored, Dropped, Found}
+use Rattle.history.specs.Rules.{Terms, Answer, Rule}
 use Rattle.history.specs.History.{Event, History, paired, Decides, Untouched, Follows, times, Current, holding, Due, Answered, Lawful}
 use Rattle.history.proofs.Keys.{one_key, length_same, numbers_same, number_there}
 use Rattle.history.proofs.Answers.{rule_same}
@@ -90,25 +89,12 @@ module _ {K V : Type 0} (bytes : K → List ℕ) (apart : (a b : K) → bytes a 
   abbrev Verdict : Event K V → K → Type 0
   Verdict e k = ((v : Option V) × Decides e k v) ⊎ ((v : Option V) → Decides e k v → ⊥)
 
-  verdict_put : (q : K) (w : V) (k : K) → ((v : Option V) × ((q ≡ k) × (v ≡ Some w))) ⊎ ((v : Option V) → (q ≡ k) × (v ≡ Some w) → ⊥)
-  verdict_put q w k = ⊎_elim (λ (e : q ≡ k). inl (Some w, (e, refl))) (λ (n : q ≡ k → ⊥). inr (λ v d. n d.0)) (one_key bytes apart q k)
-
   verdict : (e : Event K V) (k : K) → Verdict e k
-  verdict (Put q w, Kept) k = verdict_put q w k
-  verdict (Put q w, Changed) k = verdict_put q w k
-  verdict (Put q w, Dropped) k = inr (λ v d. d)
-  verdict (Put q w, Found f) k = inr (λ v d. d)
-  verdict (Put q w, Refused f) k = inr (λ v d. d)
-  verdict (Drop q, Dropped) k = ⊎_elim (λ (e : q ≡ k). inl (None, (e, refl))) (λ (n : q ≡ k → ⊥). inr (λ v d. n d.0)) (one_key bytes apart q k)
-  verdict (Drop q, Kept) k = inr (λ v d. d)
-  verdict (Drop q, Changed) k = inr (λ v d. d)
-  verdict (Drop q, Found f) k = inr (λ v d. d)
-  verdict (Drop q, Refused f) k = inr (λ v d. d)
-  verdict (Find q, Kept) k = inr (λ v d. d)
-  verdict (Find q, Changed) k = inr (λ v d. d)
-  verdict (Find q, Dropped) k = inr (λ v d. d)
-  verdict (Find q, Found f) k = inr (λ v d. d)
-  verdict (Find q, Refused f) k = inr (λ v d. d)
+  verdict (Put q w, Ok (Stored s)) k =
+      ⊎_elim (λ (e : q ≡ k). inl (Some w, (e, refl))) (λ (n : q ≡ k → ⊥). inr (λ v d. n d.0)) (one_key bytes apart q k)
+  verdict (Drop q, Ok Dropped) k =
+      ⊎_elim (λ (e : q ≡ k). inl (None, (e, refl))) (λ (n : q ≡ k → ⊥). inr (λ v d. n d.0)) (one_key bytes apart q k)
+  verdict e k = inr (λ v d. d)
 
   -- the last event that decides a key
   record Latest (h : History K V) (k : K) : Type 0 where
@@ -164,7 +150,7 @@ module _ {K V : Type 0} (t : Terms K) (apart : (a b : K) → t.bytes a ≡ t.byt
       }
 
   -- a key for which a find ends at the filter has no value
-  pub unmissed : (value : K → Option V) (k : K) → Due t value (Find k) (Found found.Filter) → value k ≡ None
+  pub unmissed : (value : K → Option V) (k : K) → Due t value (Find k) (Ok (Found found.Filter)) → value k ≡ None
   unmissed value k d = by_value (value k) refl
     where
       by_value : (v : Option V) → value k ≡ v → value k ≡ None

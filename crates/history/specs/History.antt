@@ -1,12 +1,11 @@
 -- The law of a book over whole histories: what it answers and what it holds, by the operations and their answers alone.
-use Rattle.std.specs.Prelude.{◌≡◌, ℕ, ◌+◌, List, [], ◌∷◌, ◌++◌, map, length, is_some, Some, None, Option}
+use Rattle.std.specs.Prelude.{◌≡◌, ℕ, ◌+◌, List, [], ◌∷◌, ◌++◌, map, length, is_some, Some, None, Ok, Option}
 use Rattle.kinds.specs.Keys.{same_key}
 use Rattle.layout.specs.Rule.{bit}
 use Rattle.history.specs.declared.operation.Operation.{Operation}
-use Rattle.history.specs.declared.operation.Operation.TheVariants.{Put, Drop, Find}
-use Rattle.history.specs.declared.answer.Answer.{Answer}
-use Rattle.history.specs.declared.answer.Answer.TheVariants.{Kept, Changed, Dropped, Found, Refused}
-use Rattle.history.specs.Rules.{Terms, Holdings, Rule}
+use Rattle.history.specs.declared.operation.Operation.TheVariants.{Put, Drop}
+use Rattle.history.specs.declared.answer.Told.TheVariants.{Stored, Dropped}
+use Rattle.history.specs.Rules.{Terms, Holdings, Answer, Rule}
 
 -- an operation with its answer
 abbrev pub Event : Type 0 → Type 0 → Type 0
@@ -24,21 +23,9 @@ paired (x ∷ xs) (y ∷ ys) = (x, y) ∷ paired xs ys
 
 -- An accepted put of key k gives it that value, an accepted drop none. No other event says anything of k.
 abbrev pub Decides : {K V : Type 0} → Event K V → K → Option V → Type 0
-Decides (Put q w, Kept) k v = (q ≡ k) × (v ≡ Some w)
-Decides (Put q w, Changed) k v = (q ≡ k) × (v ≡ Some w)
-Decides (Put q w, Dropped) k v = ⊥
-Decides (Put q w, Found f) k v = ⊥
-Decides (Put q w, Refused f) k v = ⊥
-Decides (Drop q, Dropped) k v = (q ≡ k) × (v ≡ None)
-Decides (Drop q, Kept) k v = ⊥
-Decides (Drop q, Changed) k v = ⊥
-Decides (Drop q, Found f) k v = ⊥
-Decides (Drop q, Refused f) k v = ⊥
-Decides (Find q, Kept) k v = ⊥
-Decides (Find q, Changed) k v = ⊥
-Decides (Find q, Dropped) k v = ⊥
-Decides (Find q, Found f) k v = ⊥
-Decides (Find q, Refused f) k v = ⊥
+Decides (Put q w, Ok (Stored s)) k v = (q ≡ k) × (v ≡ Some w)
+Decides (Drop q, Ok Dropped) k v = (q ≡ k) × (v ≡ None)
+Decides e k v = ⊥
 
 -- no event of the history decides key k
 abbrev pub Untouched : {K V : Type 0} → History K V → K → Type 0

@@ -12,8 +12,8 @@ use Rattle.history.specs.declared.answer.Stored.{Stored}
 use Rattle.history.specs.declared.answer.Stored.TheVariants as stored
 use Rattle.history.specs.declared.answer.Found.{Found}
 use Rattle.history.specs.declared.answer.Found.TheVariants as found
-use Rattle.history.specs.declared.answer.Answer.{Answer}
-use Rattle.history.specs.declared.answer.Answer.TheVariants as answer
+use Rattle.history.specs.declared.answer.Told.{Told}
+use Rattle.history.specs.declared.answer.Told.TheVariants as told
 use Rattle.history.specs.declared.fault.BookFault.{BookFault}
 use Rattle.history.specs.declared.fault.BookFault.TheVariants.{Filter, Table, StrangeFilter}
 
@@ -65,20 +65,15 @@ abbrev pub FindRule : {K V : Type 0} → Terms K → Holdings K V → K → Foun
 FindRule t h k found.Filter = count (t.fingerprint k) h.entries ≡ 0
 FindRule t h k (found.Table v) = (0 < count (t.fingerprint k) h.entries) × (v ≡ h.value k)
 
--- The answer that the rules give to an operation.
+-- What a book answers to an operation: what it did, or why it is refused.
+abbrev pub Answer : Type 0 → Type 0
+Answer V = Result (Told V) BookFault
+
+-- The answer that the rules give to an operation; no answer of another kind is given.
 abbrev pub Rule : {K V : Type 0} → Terms K → Holdings K V → Operation K V → Answer V → Type 0
-Rule t h (Put k v) answer.Kept = PutRule t h k (Ok stored.Kept)
-Rule t h (Put k v) answer.Changed = PutRule t h k (Ok stored.Changed)
-Rule t h (Put k v) (answer.Refused f) = PutRule t h k (Err f)
-Rule t h (Put k v) answer.Dropped = ⊥
-Rule t h (Put k v) (answer.Found f) = ⊥
-Rule t h (Drop k) answer.Dropped = DropRule t h k (Ok tt)
-Rule t h (Drop k) (answer.Refused f) = DropRule t h k (Err f)
-Rule t h (Drop k) answer.Kept = ⊥
-Rule t h (Drop k) answer.Changed = ⊥
-Rule t h (Drop k) (answer.Found f) = ⊥
-Rule t h (Find k) (answer.Found f) = FindRule t h k f
-Rule t h (Find k) answer.Kept = ⊥
-Rule t h (Find k) answer.Changed = ⊥
-Rule t h (Find k) answer.Dropped = ⊥
-Rule t h (Find k) (answer.Refused f) = ⊥
+Rule t h (Put k v) (Ok (told.Stored s)) = PutRule t h k (Ok s)
+Rule t h (Put k v) (Err f) = PutRule t h k (Err f)
+Rule t h (Drop k) (Ok told.Dropped) = DropRule t h k (Ok tt)
+Rule t h (Drop k) (Err f) = DropRule t h k (Err f)
+Rule t h (Find k) (Ok (told.Found f)) = FindRule t h k f
+Rule t h o a = ⊥

@@ -1,8 +1,9 @@
-ghost use Rattle.std.specs.Prelude.{◌≡◌};
+ghost use Rattle.std.specs.Prelude.{◌≡◌, Some, decimal};
 ghost use Rattle.history.specs.Faults.{number_of};
 ghost use Rattle.history.specs.declared.fault.BookFault.TheVariants.{Filter, Table};
 
 use filter::FilterFault;
+use std::fmt;
 use tables::TableFault;
 
 /// Why a book turns a call away: the part that refuses, and its fault.
@@ -26,6 +27,17 @@ impl BookFault {
             BookFault::Table(fault) => fault.number(),
             BookFault::StrangeFilter => 40,
         }
+    }
+}
+
+/// The number that a customer sees.
+// kept: Display is implemented for one type at a time, and no macro of the repository may write impls.
+impl fmt::Display for BookFault {
+    ghost output = { λ fault. Some (decimal (number_of fault)) };
+
+    fn fmt<W: fmt::Write>(&self, f: &mut fmt::Formatter<W>) -> fmt::Result {
+        let number = self.number();
+        write!(f, "{number}")
     }
 }
 

@@ -5,6 +5,6 @@ mod answer;
 mod fault;
 mod operation;
 
-pub use answer::{Answer, Found, Stored};
+pub use answer::{Answer, Found, Stored, Told};
 pub use fault::BookFault;
 pub use operation::Operation;

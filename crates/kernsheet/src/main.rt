@@ -1,11 +1,11 @@
 //! Answers the sheet on standard input, line by line, by a kerning book and a ligature book that begin empty.
 #![tactic(auto)]
 
-ghost use Rattle.std.specs.Prelude.{◌≡◌};
+ghost use Rattle.std.specs.Prelude.{◌≡◌, ◌≤◌};
 
-use answers::write_fault;
+use answers::{SheetFault, write_fault};
 use filter::{Filter, Plan};
-use kinds::{Fibonacci, Fnv1a, Kern, Ligature, Pair, Sequence};
+use kinds::{Fibonacci, Fnv1a, Kern, Kind, Ligature, Pair, Sequence};
 use listtable::ListTable;
 use sheet::{Book, Lines, do_line, lines_of};
 use std::io;
@@ -15,21 +15,42 @@ use tables::Record;
 /// How many bytes are read: one more than a sheet may have.
 const MOST: u64 = 65_536;
 
-/// The plan of the kerning book.
-fn kern_plan() -> Plan
-    ensures { (result.q ≡ 8) × (result.r ≡ 24) }
-{
-    let Ok(plan) = Plan::new(8, 24) else {
-        unreachable()
-    };
-    plan
+/// A filter and a table of one kind, which a book is lent.
+#[derive(Drop)]
+struct Shelf<'a, K: Kind> {
+    filter: Filter<'a>,
+    table: ListTable<'a, K>,
 }
 
-/// The plan of the ligature book.
-fn ligature_plan() -> Plan
-    ensures { (result.q ≡ 6) × (result.r ≡ 16) }
+impl<'a, K: Kind> Shelf<'a, K> {
+    /// An empty one over lent words and records.
+    fn over(
+        plan: Plan,
+        words: &'a mut [u64],
+        records: &'a mut [Record<K::Key, K::Value>],
+    ) -> Shelf<'a, K> {
+        Shelf {
+            filter: Filter::begin(plan, words),
+            table: ListTable::begin(records),
+        }
+    }
+
+    /// The book by a fingerprint.
+    fn book<'s, P>(&'s mut self, by: &'s P) -> Book<'s, 'a, 's, 's, ListTable<'a, K>, P> {
+        Book {
+            filter: &mut self.filter,
+            table: &mut self.table,
+            by,
+        }
+    }
+}
+
+/// The plan of so many bits of a quotient and of a remainder.
+fn plan_of(q: u32, r: u32) -> Plan
+    requires { (6 ≤ q) × (q ≤ 20) × (1 ≤ r) × (r ≤ 32) }
+    ensures { (result.q ≡ q) × (result.r ≡ r) }
 {
-    let Ok(plan) = Plan::new(6, 16) else {
+    let Ok(plan) = Plan::new(q, r) else {
         unreachable()
     };
     plan
@@ -50,28 +71,30 @@ fn answer_lines<W: Write>(
     ligatures: &mut Book<'_, '_, '_, '_, ListTable<'_, Ligature>, Fnv1a>,
     lines: Lines<'_>,
 ) -> io::Result<()> {
-    let mut number: u32 = 0;
-    for line in lines {
-        number = number.saturating_add(1);
+    for (line, number) in lines.zip(1..) {
         let mut answer = [0u8; 32];
-        if let Ok(bytes) = do_line(kerns, ligatures, &mut answer, number, line) {
-            out.write_all(&answer[0..bytes.min(32)])?;
-        }
+        let Ok(bytes) = do_line(kerns, ligatures, &mut answer, number, line) else {
+            unreachable()
+        };
+        out.write_all(&answer[..bytes])?;
     }
     Ok(())
+}
+
+/// Writes the answer to a sheet that is refused as a whole.
+fn answer_fault<W: Write>(out: &mut W, fault: SheetFault) -> io::Result<()> {
+    let mut answer = [0u8; 32];
+    let Ok(bytes) = write_fault(&mut answer, fault) else {
+        unreachable()
+    };
+    out.write_all(&answer[..bytes])
 }
 
 /// Answers a sheet by two books that begin empty. A sheet that is too long gets one answer.
 fn answer_sheet<W: Write>(out: &mut W, sheet: &[u8]) -> io::Result<()> {
     let lines = match lines_of(sheet) {
         Ok(lines) => lines,
-        Err(fault) => {
-            let mut answer = [0u8; 32];
-            if let Ok(bytes) = write_fault(&mut answer, fault) {
-                out.write_all(&answer[0..bytes.min(32)])?;
-            }
-            return Ok(());
-        }
+        Err(fault) => return answer_fault(out, fault),
     };
     let mut kern_words = [0u64; 135];
     let mut kern_records = [Record {
@@ -83,21 +106,18 @@ fn answer_sheet<W: Write>(out: &mut W, sheet: &[u8]) -> io::Result<()> {
         key: blank(),
         value: 0u16,
     }; 64];
-    let mut kern_filter = Filter::begin(kern_plan(), &mut kern_words);
-    let mut kern_table = ListTable::<Kern>::begin(&mut kern_records);
-    let mut ligature_filter = Filter::begin(ligature_plan(), &mut ligature_words);
-    let mut ligature_table = ListTable::<Ligature>::begin(&mut ligature_records);
-    let mut kerns = Book {
-        filter: &mut kern_filter,
-        table: &mut kern_table,
-        by: &Fibonacci,
-    };
-    let mut ligatures = Book {
-        filter: &mut ligature_filter,
-        table: &mut ligature_table,
-        by: &Fnv1a,
-    };
-    answer_lines(out, &mut kerns, &mut ligatures, lines)
+    let mut kerns = Shelf::<Kern>::over(plan_of(8, 24), &mut kern_words, &mut kern_records);
+    let mut ligatures = Shelf::<Ligature>::over(
+        plan_of(6, 16),
+        &mut ligature_words,
+        &mut ligature_records,
+    );
+    answer_lines(
+        out,
+        &mut kerns.book(&Fibonacci),
+        &mut ligatures.book(&Fnv1a),
+        lines,
+    )
 }
 
 /// Answers standard input on standard output.

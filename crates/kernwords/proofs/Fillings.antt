@@ -11,7 +11,7 @@ use Rattle.filter.specs.declared.fault.FilterFault.{FilterFault}
 use Rattle.filter.specs.declared.fault.FilterFault.TheVariants.{BadPlan, WideFingerprint, NoSlot, NoSuchFingerprint}
 use Rattle.kinds.specs.declared.kern.Pair.{Pair}
 use Rattle.kinds.specs.Hashes.{fibonacci}
-use Rattle.kernwords.specs.declared.fault.Fault.TheVariants.{Filter}
+use Rattle.console.specs.declared.fault.Fault.TheVariants.{Filter}
 use Rattle.kernwords.specs.Filling.{cut_print, Filled, Worded}
 
 -- words that were cleared first

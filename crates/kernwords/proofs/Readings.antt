@@ -1,5 +1,6 @@
 -- A line has one reading at most.
-use Rattle.std.proofs.Common.{◌≡◌, ℕ, suc, List, ◌∷◌, ◌++◌, ℤ, pos, negsuc, None, Err, sym, ap, ◌∙◌, subst, ⊎_elim, arith}
+use Rattle.std.proofs.Common.{◌≡◌, ℕ, suc, List, ◌∷◌, ◌++◌, ℤ, pos, negsuc, None, Ok, Err, Result, sym, ap, ◌∙◌, subst, ⊎_elim, arith}
+use Rattle.std.specs.Result.{result_ok}
 use Rattle.figures.specs.declared.FigureFault.{FigureFault}
 use Rattle.figures.specs.declared.FigureFault.TheVariants.{Unreadable, TooLarge}
 use Rattle.figures.specs.Figures.{Figure}
@@ -32,8 +33,12 @@ one_reading line a b c d y z p q =
     let second = one_cut p.r q.r p.v q.v b d p.right q.right first.1 in
     (first.0, second.0, one_value p.v q.v y z second.1 p.value q.value)
 
-pub no_name : (line : List ℕ) (e : FigureFault) → Paired line (Err e) → Named line None
+no_name : (line : List ℕ) (e : FigureFault) → Paired line (Err e) → Named line None
 no_name line Unreadable h p (lo, hi, (z, within, reading)) = h p.left p.right z reading
 no_name line TooLarge (a, b, y, other, why) p (lo, hi, (z, within, reading)) =
     let one = one_reading line a b p.left p.right y z other reading in
     ⊎_elim (λ k. omega (arith, one.0)) (⊎_elim (λ k. omega (arith, one.1)) (λ k. k (subst Within (sym one.2) within))) why
+
+pub no_reading : (line : List ℕ) (r : Result (ℕ × ℕ × ℤ) FigureFault) → Paired line r → result_ok r ≡ None → Named line None
+no_reading line (Ok v) h e = cc
+no_reading line (Err f) h e = no_name line f h

@@ -8,8 +8,8 @@ use Rattle.filter.specs.declared.fault.FilterFault.{FilterFault}
 use Rattle.filter.specs.declared.fault.FilterFault.TheVariants.{BadPlan, WideFingerprint, NoSlot, NoSuchFingerprint}
 use Rattle.kinds.specs.declared.kern.Pair.{Pair}
 use Rattle.kinds.specs.Hashes.{fibonacci}
-use Rattle.kernwords.specs.declared.fault.Fault.{Fault}
-use Rattle.kernwords.specs.declared.fault.Fault.TheVariants.{Memory, Stream, Arguments, Filter}
+use Rattle.console.specs.declared.fault.Fault.{Fault}
+use Rattle.console.specs.declared.fault.Fault.TheVariants.{Memory, Stream, Arguments, Filter}
 
 -- the fingerprint of a pair, cut to the plan
 abbrev pub cut_print : Plan → Pair → ℕ

@@ -1,28 +1,19 @@
 //! From pairs to the words of a filter.
-ghost use Rattle.std.specs.Prelude.{◌≡◌, min, map, IfOk, vec_len, MatchResult};
+ghost use Rattle.std.specs.Prelude.{◌≡◌, min, map, MatchResult};
 ghost use Rattle.kernwords.specs.Filling.{cut_print, Filled, Worded};
 
-use crate::fault::Fault;
+use console::fault::Fault;
+use console::storage::blank;
 use filter::{Filter, FilterFault, Plan};
 use kinds::{Fibonacci, Fingerprint, Pair};
-use std::alloc::{AllocError, Global};
+use std::alloc::Global;
 
 /// The fingerprints of pairs, cut to the plan, in the order of the pairs.
 fn fingerprints(heap: Global, plan: Plan, pairs: &[Pair]) -> Result<Vec<u64>, Fault>
     ensures { MatchResult result (λ v. v.items ≡ map (cut_print plan) pairs.now) (λ e. e ≡ Fault.Memory) }
 {
-    let mut list = Vec::new(heap);
-    for pair in pairs {
-        list.push(plan.cut(Fibonacci.fingerprint(pair)))?;
-    }
-    Ok(list)
-}
-
-/// That many words.
-fn blank(heap: Global, n: usize) -> Result<Vec<u64>, AllocError>
-    ensures { IfOk result (λ v. vec_len v ≡ n) }
-{
-    vec![in heap; 0u64; n]
+    let cut = |pair: &Pair| plan.cut(Fibonacci.fingerprint(pair));
+    Ok(pairs.iter().map(cut).collect(heap)?)
 }
 
 /// Lays out a list in a filter over the words.
@@ -38,7 +29,7 @@ pub fn words_of(heap: Global, plan: Plan, blocks: usize, pairs: &[Pair]) -> Resu
     ensures { Worded plan (min blocks 16640) (map (cut_print plan) pairs.now) result }
 {
     let mut list = fingerprints(heap, plan, pairs)?;
-    let mut words = blank(heap, blocks.min(16640) * (plan.r() as usize + 3))?;
+    let mut words = blank(heap, plan, blocks)?;
     fill(plan, words.as_mut_slice(), list.as_mut_slice())?;
     Ok(words)
 }

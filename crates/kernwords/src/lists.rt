@@ -2,8 +2,8 @@
 ghost use Rattle.std.specs.Prelude.{IfOk};
 ghost use Rattle.kernwords.specs.Lists.{Named, Told};
 
-use crate::fault::Fault;
-use figures::lines::next_line;
+use console::fault::Fault;
+use figures::lines::Lines;
 use figures::pair_fields;
 use kinds::Pair;
 use std::alloc::Global;
@@ -19,10 +19,8 @@ pub struct Listing {
 fn pair_of(line: &[u8]) -> Option<Pair>
     ensures { Named line.now result }
 {
-    match pair_fields(line) {
-        Ok((left, right, _)) => Some(Pair { left, right }),
-        Err(_) => None,
-    }
+    let (left, right, _) = pair_fields(line).ok()?;
+    Some(Pair { left, right })
 }
 
 /// What the lines of the text say.
@@ -31,15 +29,11 @@ pub fn read_list(heap: Global, text: &[u8]) -> Result<Listing, Fault>
 {
     let mut pairs = Vec::new(heap);
     let mut bad = Vec::new(heap);
-    let mut left = text;
-    let mut number: u64 = 0;
-    while let Some((line, rest)) = next_line(left) {
-        number += 1;
+    for (number, line) in (1u64..).zip(Lines::of(text)) {
         match pair_of(line) {
             Some(pair) => pairs.push(pair)?,
             None => bad.push(number)?,
         }
-        left = rest;
     }
     Ok(Listing { pairs, bad })
 }

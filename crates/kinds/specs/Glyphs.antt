@@ -1,14 +1,12 @@
 -- Glyphs and their bytes.
-use Rattle.std.specs.Prelude.{◌≡◌, ℕ, zero, suc, ◌*◌, ◌/◌, ◌%◌, ◌<◌, ◌≤◌, Bool, true, false, ◌⊎◌, List, [], ◌∷◌, length, take, Decides, ◌≢◌, nat_le, slice_index, refl}
-use Rattle.std.proofs.Common.{sym, ap, ◌∙◌, inl, inr, arith, rules}
+use Rattle.std.specs.Prelude.{◌≡◌, ℕ, zero, suc, ◌*◌, ◌/◌, ◌%◌, ◌≤◌, Bool, true, false, List, [], ◌∷◌, length, take, Decides, ◌≢◌, nat_le, slice_index, refl}
+use Rattle.std.proofs.Common.{sym, ap, arith, rules}
 use Rattle.std.proofs.Math.Seq.{take-nil}
-use Rattle.std.proofs.lemmas.List.{same_lists, get_or-take, get_or_default, length-take-le}
 use Rattle.std.specs.Str.{bytes_eq}
 use Rattle.std.proofs.lemmas.Slice.Eq.{bytes_eq-Decides, text_from_reads}
-use Rattle.std.proofs.lemmas.Bool.{cases_lt, and_from, le-leb, false≢true}
-use denote.Struct.Record.{values_one}
+use Rattle.std.proofs.lemmas.Bool.{and_from, le-leb, false≢true}
 use Rattle.kinds.specs.declared.sequence.Sequence.{Sequence}
-use Rattle.kinds.specs.contracts.sequence.Sequence.{struct, the_propositions}
+use Rattle.kinds.specs.declared.sequence.Sequence.TheVariants.{Two, Three, Four}
 use Rattle.kinds.specs.declared.kern.Pair.{Pair}
 use Rattle.kinds.specs.Bytes.{glyph_bytes, pair_bytes, sequence_bytes}
 use Rattle.kinds.specs.Keys.{same_key}
@@ -17,10 +15,6 @@ use Rattle.kinds.specs.Sequences.{glyphs_of, two_to_four}
 -- a test that decides whether bytes are equal
 tested : (xs ys : List ℕ) (r : Bool) → Decides r (xs ≡ ys) → r ≡ bytes_eq xs ys
 tested xs ys r h = search (rules, bytes_eq-Decides)
-
--- two sequences with the same fields are one
-pub sequence_ext : (r s : Sequence) → r.glyphs ≡ s.glyphs → r.len ≡ s.len → r ≡ s
-sequence_ext r s p q = values_one struct the_propositions r s (cc)
 
 parts_one : (x y : ℕ) → x / 256 ≡ y / 256 → x % 256 ≡ y % 256 → x ≡ y
 parts_one x y p q = omega arith
@@ -46,44 +40,35 @@ pair_bytes_one p q e =
     let right : p.right ≡ q.right = cc in
     λ i. record { left = left i; right = right i }
 
--- a sequence has as many glyphs as it says
-pub glyphs_length : (s : Sequence) → length (glyphs_of s) ≡ s.len
-glyphs_length s = length-take-le s.len s.glyphs (omega (arith, s.sized, s.most))
+-- a sequence has two to four glyphs
+pub glyphs_length : (s : Sequence) → two_to_four (length (glyphs_of s)) ≡ true
+glyphs_length (Two a b) = refl
+glyphs_length (Three a b c) = refl
+glyphs_length (Four a b c d) = refl
 
 -- two sequences with the same glyphs are one
 pub sequence_one : (r s : Sequence) → glyphs_of r ≡ glyphs_of s → r ≡ s
-sequence_one r s e =
-    sequence_ext r s
-    (same_lists r.glyphs s.glyphs (r.sized ∙ sym s.sized) (λ k d h.
-    let there : k < length s.glyphs = omega (arith, r.sized, s.sized) in
-    get_or_default r.glyphs k d 0 h ∙ by_cases k (cases_lt k r.len) ∙ get_or_default s.glyphs k 0 d there))
-    lens
-  where
-    lens : r.len ≡ s.len
-    lens = sym (glyphs_length r) ∙ ap length e ∙ glyphs_length s
-
-    by_cases : (k : ℕ) → (k < r.len) ⊎ (r.len ≤ k) → slice_index r.glyphs k ≡ slice_index s.glyphs k
-    by_cases k (inl h) =
-        let h' : k < s.len = omega (arith, lens) in
-        sym (get_or-take r.len r.glyphs k 0 h) ∙ ap (λ xs. slice_index xs k) e ∙ get_or-take s.len s.glyphs k 0 h'
-    by_cases k (inr h) =
-        let h' : s.len ≤ k = omega (arith, lens) in
-        r.padded k h ∙ sym (s.padded k h')
+sequence_one (Two a b) (Two x y) e = cc
+sequence_one (Two a b) (Three x y z) e = absurd (omega (arith, ap length e))
+sequence_one (Two a b) (Four x y z w) e = absurd (omega (arith, ap length e))
+sequence_one (Three a b c) (Two x y) e = absurd (omega (arith, ap length e))
+sequence_one (Three a b c) (Three x y z) e = cc
+sequence_one (Three a b c) (Four x y z w) e = absurd (omega (arith, ap length e))
+sequence_one (Four a b c d) (Two x y) e = absurd (omega (arith, ap length e))
+sequence_one (Four a b c d) (Three x y z) e = absurd (omega (arith, ap length e))
+sequence_one (Four a b c d) (Four x y z w) e = cc
 
 -- two sequences with the same bytes are one
 pub sequence_bytes_one : (r s : Sequence) → sequence_bytes r ≡ sequence_bytes s → r ≡ s
 sequence_bytes_one r s e = sequence_one r s (glyph_bytes_one (glyphs_of r) (glyphs_of s) e)
 
--- whether two sequences are the same, told by their fields
-pub same_sequence : (a b : Sequence) (r : Bool) → a.len ≡ b.len → Decides r (a.glyphs ≡ b.glyphs) → r ≡ same_key sequence_bytes a b
-same_sequence a b r len d =
-    tested (sequence_bytes a) (sequence_bytes b) r
-    (λ t. ap sequence_bytes (sequence_ext a b (d.0 t) len), λ e. d.1 (ap (λ s. s.glyphs) (sequence_bytes_one a b e)))
+-- a test that decides whether two sequences are one tells whether they are the same
+pub same_sequence : (a b : Sequence) (r : Bool) → Decides r (a ≡ b) → r ≡ same_key sequence_bytes a b
+same_sequence a b r d = tested (sequence_bytes a) (sequence_bytes b) r (λ t. ap sequence_bytes (d.0 t), λ e. d.1 (sequence_bytes_one a b e))
 
-pub other_length : (a b : Sequence) → (a.len ≢ b.len) → false ≡ same_key sequence_bytes a b
-other_length a b ne =
-    tested (sequence_bytes a) (sequence_bytes b) false
-    (λ t. absurd (false≢true t), λ e. absurd (ne (ap (λ s. s.len) (sequence_bytes_one a b e))))
+-- two sequences of other lengths are not the same
+pub other_length : (a b : Sequence) → (length (glyphs_of a) ≢ length (glyphs_of b)) → false ≡ same_key sequence_bytes a b
+other_length a b ne = same_sequence a b false (λ t. absurd (false≢true t), λ e. absurd (ne (ap (λ s. length (glyphs_of s)) e)))
 
 -- two to four glyphs are taken
 pub taken : (n : ℕ) → 2 ≤ n → n ≤ 4 → true ≡ two_to_four n

@@ -1,6 +1,6 @@
 ghost use Rattle.std.specs.Prelude.{◌≡◌, ℕ, ◌^◌, ◌<◌};
 ghost use Rattle.kinds.specs.Examples.{PairExamples};
-ghost use Rattle.kinds.specs.Hashes.{fnv, fibonacci, rotated};
+ghost use Rattle.kinds.specs.Hashes.{fnv, fibonacci};
 ghost use Rattle.kinds.specs.Hashing.{fnv_small, fibonacci_small};
 
 use crate::hash::fnv1a;
@@ -34,13 +34,6 @@ impl<K: Kind> Fingerprint<K> for Fnv1a {
     }
 }
 
-// Rotates a number left by 16 bits.
-fn rotate(x: u32) -> u32
-    ensures { result ≡ rotated x }
-{
-    x.rotate_left(16)
-}
-
 /// Fibonacci hashing of a pair: a product with 2654435769, about 2^32 over the golden ratio.
 #[derive(Clone, Copy)]
 pub struct Fibonacci;
@@ -51,14 +44,12 @@ impl Fingerprint<Kern> for Fibonacci {
     ghost fits = { λ p k. fibonacci_small k.left k.right };
 
     fn fingerprint(&self, key: &Pair) -> u64 {
-        let both = key.left as u32 * 65536 + key.right as u32;
-        u64::from(rotate(both.wrapping_mul(2654435769)))
+        let both = u32::from(key.left) * 65536 + u32::from(key.right);
+        u64::from(both.wrapping_mul(2654435769).rotate_left(16))
     }
 }
 
 /// The theorem that Fibonacci hashing gives these three values.
-pub fn examples() -> u8
+pub fn examples()
     ensures { PairExamples fibonacci }
-{
-    0
-}
+{}

@@ -2,7 +2,7 @@ ghost use Rattle.kinds.specs.Bytes.{pair_bytes};
 ghost use Rattle.kinds.specs.Glyphs.{pair_bytes_one};
 
 use crate::key_bytes::KeyBytes;
-use crate::kind::{Kind, high, low};
+use crate::kind::Kind;
 
 /// Two glyphs that stand side by side.
 #[derive(Clone, Copy, PartialEq, Eq, PartialOrd, Ord, Debug)]
@@ -24,20 +24,10 @@ impl Kind for Kern {
     ghost apart = { λ p q e. pair_bytes_one p q e };
 
     fn bytes(key: &Pair) -> KeyBytes {
-        let at = [
-            high(key.left),
-            low(key.left),
-            high(key.right),
-            low(key.right),
-            0,
-            0,
-            0,
-            0,
-        ];
-        KeyBytes { at, len: 4 }
+        KeyBytes::of_glyphs([key.left, key.right, 0, 0], 2)
     }
 
     fn same(a: &Pair, b: &Pair) -> bool {
-        a.left == b.left && a.right == b.right
+        a == b
     }
 }

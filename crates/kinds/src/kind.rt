@@ -1,31 +1,8 @@
-ghost use Rattle.std.specs.Prelude.{◌≡◌, ℕ, ◌/◌, ◌%◌, List};
+ghost use Rattle.std.specs.Prelude.{◌≡◌, ℕ, List};
 ghost use Rattle.kinds.specs.Bytes.{held_bytes};
 ghost use Rattle.kinds.specs.Keys.{same_key};
 
 use crate::key_bytes::KeyBytes;
-
-impl KeyBytes {
-    /// The bytes held.
-    pub fn as_slice(&self) -> &[u8]
-        ensures { result.now ≡ held_bytes self.now }
-    {
-        &self.at[0..self.len]
-    }
-}
-
-// The high byte of a glyph.
-pub(crate) fn high(glyph: u16) -> u8
-    ensures { result ≡ glyph / 256 }
-{
-    (glyph / 256) as u8
-}
-
-// The low byte of a glyph.
-pub(crate) fn low(glyph: u16) -> u8
-    ensures { result ≡ glyph % 256 }
-{
-    (glyph % 256) as u8
-}
 
 /// A kind of record: what its keys and its values are, and which bytes a key stands for.
 /// A key has at most eight bytes. Two keys of a kind are the same exactly when their bytes are equal.

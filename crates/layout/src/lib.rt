@@ -7,12 +7,10 @@ ghost use Rattle.layout.specs.Rule.{Sorted, Roomy};
 
 use words::Width;
 
-/// The laws of the layout. The answer is 0; what counts is the contract.
-pub fn laws() -> u8
+/// The laws of the layout. Nothing is done; what counts is the contract.
+pub fn laws()
     ensures { Laws }
-{
-    0
-}
+{}
 
 /// How many slots the layout of fingerprints in rising order takes, from slot 0 to the last used one: it fits into that many slots or more,
 /// and into no fewer. A list has a layout in some slots just where no quotient is crowded there.

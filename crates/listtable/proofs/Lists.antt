@@ -1,7 +1,12 @@
 -- What the calls on a list make of its meaning.
-use Rattle.std.proofs.Common.{◌≡◌, ℕ, ◌+◌, ◌-◌, ◌<◌, ◌≤◌, true, false, ◌⊎◌, List, length, get_or, set, is_some, Some, None, Err, Option, sym, refl, ap, ◌∙◌, subst, inl, inr, arith}
-use Rattle.std.proofs.lemmas.List.{length-set}
-use Rattle.std.proofs.lemmas.Bool.{cases_eq, cases_lt}
+use Rattle.std.proofs.Common.{◌≡◌, ℕ, ◌+◌, ◌-◌, ◌<◌, ◌≤◌, Bool, true, false, ◌⊎◌, List, length, get_or, take, set, slice_get, is_some, Some, None, Err, Option, sym, refl, ap, ◌∙◌, subst, inl, inr, arith}
+use Rattle.std.specs.List.{position, position_or_len}
+use Rattle.std.proofs.lemmas.List.{length-set, length-take-le, get_or-take}
+use Rattle.std.proofs.lemmas.Option.{slice_get_cases}
+use Rattle.std.proofs.lemmas.List.Quantifiers.{position-Some}
+use Rattle.std.proofs.lemmas.List.Sums.{fails_before_first}
+use Rattle.std.proofs.lemmas.Grind.{common_steps}
+use Rattle.std.proofs.lemmas.Bool.{cases_lt}
 use Rattle.kinds.specs.Keys.{same_key}
 use Rattle.tables.specs.declared.record.Record.{Record}
 use Rattle.tables.specs.Rows.{lookup, Apart}
@@ -10,12 +15,22 @@ use Rattle.tables.specs.Meaning.{SameFrame, Revalued, SetDone}
 use Rattle.tables.proofs.Options.{none_some, some_one, of_none, of_some, same_is, differ_from}
 use Rattle.tables.proofs.Lookups.{only_held, only_absent, absent_lookup, lookup_absent, lookup_held}
 use Rattle.tables.proofs.Changes.{apart_set, revalued_set, apart_taken, revalued_taken}
-use Rattle.listtable.specs.Lists.{list_capacity, places_of, list_meaning, beyond_list, Holds, PlaceOf}
+use Rattle.listtable.specs.Lists.{list_capacity, places_of, list_meaning, beyond_list}
 use Rattle.listtable.specs.Propers.{length_places, count_places}
-use Rattle.listtable.proofs.Places.{at_held, at_read, at_free, same_length, places_write, places_append, places_fewer, beyond_write}
+use Rattle.listtable.proofs.Places.{at_held, at_read, at_free, held_row, same_length, places_write, places_append, places_fewer, beyond_write}
 
 pub apart_none : {K V : Type 0} (rs : List (Record K V)) → Apart (places_of 0 rs)
 apart_none rs t = none_some t.r (sym (at_free 0 rs t.i (omega arith) (omega arith)) ∙ t.first)
+
+-- a row with a record of that key
+abbrev pub Holds : {K V : Type 0} → Option (Record K V) → K → Type 0
+Holds (Some r) k = r.key ≡ k
+Holds None k = ⊥
+
+-- Where a key stands among the places of which the first ones are held: at that place, or nowhere.
+abbrev pub PlaceOf : {K V : Type 0} → (K → List ℕ) → ℕ → List (Record K V) → K → Option ℕ → Type 0
+PlaceOf bytes held records k (Some place) = (place < held) × Holds (get_or (places_of held records) place None) k
+PlaceOf bytes held records k None = lookup bytes (places_of held records) k ≡ None
 
 -- a row that holds the key
 pub holds_row : {K V : Type 0} (o : Option (Record K V)) (k : K) → Holds o k → (v : V) × (o ≡ Some (record { key = k; value = v }))
@@ -39,71 +54,63 @@ pub record Changed {K V : Type 0} (bytes : K → List ℕ) (held held' : ℕ) (r
 
 module _ {K V : Type 0} (bytes : K → List ℕ) (apart : (a b : K) → bytes a ≡ bytes b → a ≡ b) (held : ℕ) (rs : List (Record K V)) (within : held ≤ list_capacity (length rs)) (once : Apart (places_of held rs)) where
   -- the value of a key that is held
-  pub overwritten : (p : ℕ) (k : K) (v : V) (rs' : List (Record K V)) → PlaceOf bytes held rs k (Some p) → rs' ≡ set rs p (record { key = k; value = v }) → Changed bytes held held rs rs' k (Some v)
-  overwritten p k v rs' at e = subst (λ l. Changed bytes held held rs l k (Some v)) (sym e) changed
-    where
-      changed : Changed bytes held held rs (set rs p (record { key = k; value = v })) k (Some v)
-      changed =
-          let rows = places_of held rs in
-          let o : Option (Record K V) = Some (record { key = k; value = v }) in
-          let w = holds_row (get_or rows p None) k at.1 in
-          let only = only_held rows p (record { key = k; value = w.0 }) once w.1 in
-          let old = of_some (get_or rows p None) k w.0 w.1 in
-          let eq = places_write held rs p (record { key = k; value = v }) within at.0 in
-          let n = same_length rs p (record { key = k; value = v }) in
-          let inside : p < length rows = omega (arith, at.0, length_places held rs within) in
-          record {
-            within = omega arith;
-            once = subst (λ x. Apart x) (sym eq) (apart_set rows p k o inside only old (of_some o k v refl) once);
-            frame = frame_list held held rs (set rs p (record { key = k; value = v })) (length-set rs p (record { key = k; value = v })) within (omega arith);
-            beyond = beyond_write rs p (record { key = k; value = v }) (omega (arith, at.0));
-            revalued = λ q. ap (λ x. lookup bytes x q) eq ∙ revalued_set rows p k o inside only old (of_some o k v refl) bytes apart once q;
-          }
+  pub overwritten : (p : ℕ) (k : K) (v : V) → PlaceOf bytes held rs k (Some p) → Changed bytes held held rs (set rs p (record { key = k; value = v })) k (Some v)
+  overwritten p k v at =
+      let rows = places_of held rs in
+      let o : Option (Record K V) = Some (record { key = k; value = v }) in
+      let w = holds_row (get_or rows p None) k at.1 in
+      let only = only_held rows p (record { key = k; value = w.0 }) once w.1 in
+      let old = of_some (get_or rows p None) k w.0 w.1 in
+      let eq = places_write held rs p (record { key = k; value = v }) within at.0 in
+      let n = same_length rs p (record { key = k; value = v }) in
+      let inside : p < length rows = omega (arith, at.0, length_places held rs within) in
+      record {
+        within = omega arith;
+        once = subst (λ x. Apart x) (sym eq) (apart_set rows p k o inside only old (of_some o k v refl) once);
+        frame = frame_list held held rs (set rs p (record { key = k; value = v })) (length-set rs p (record { key = k; value = v })) within (omega arith);
+        beyond = beyond_write rs p (record { key = k; value = v }) (omega (arith, at.0));
+        revalued = λ q. ap (λ x. lookup bytes x q) eq ∙ revalued_set rows p k o inside only old (of_some o k v refl) bytes apart once q;
+      }
 
   -- a key that is new
-  pub appended : (k : K) (v : V) (held' : ℕ) (rs' : List (Record K V)) → PlaceOf bytes held rs k None → held < list_capacity (length rs) → held' ≡ held + 1 → rs' ≡ set rs held (record { key = k; value = v }) → Changed bytes held held' rs rs' k (Some v)
-  appended k v held' rs' none room more e = subst (λ n. Changed bytes held n rs rs' k (Some v)) (sym more) (subst (λ l. Changed bytes held (held + 1) rs l k (Some v)) (sym e) changed)
-    where
-      changed : Changed bytes held (held + 1) rs (set rs held (record { key = k; value = v })) k (Some v)
-      changed =
-          let rows = places_of held rs in
-          let o : Option (Record K V) = Some (record { key = k; value = v }) in
-          let only = only_absent rows held k (absent_lookup bytes apart rows k none) in
-          let old = of_none (get_or rows held None) k (at_free held rs held within (omega arith)) in
-          let eq = places_append held rs (record { key = k; value = v }) room in
-          let n = same_length rs held (record { key = k; value = v }) in
-          let inside : held < length rows = omega (arith, length_places held rs within) in
-          record {
-            within = omega arith;
-            once = subst (λ x. Apart x) (sym eq) (apart_set rows held k o inside only old (of_some o k v refl) once);
-            frame = frame_list held (held + 1) rs (set rs held (record { key = k; value = v })) (length-set rs held (record { key = k; value = v })) within (omega arith);
-            beyond = beyond_write rs held (record { key = k; value = v }) room;
-            revalued = λ q. ap (λ x. lookup bytes x q) eq ∙ revalued_set rows held k o inside only old (of_some o k v refl) bytes apart once q;
-          }
+  pub appended : (k : K) (v : V) → PlaceOf bytes held rs k None → held < list_capacity (length rs) → Changed bytes held (held + 1) rs (set rs held (record { key = k; value = v })) k (Some v)
+  appended k v none room =
+      let rows = places_of held rs in
+      let o : Option (Record K V) = Some (record { key = k; value = v }) in
+      let only = only_absent rows held k (absent_lookup bytes apart rows k none) in
+      let old = of_none (get_or rows held None) k (at_free held rs held within (omega arith)) in
+      let eq = places_append held rs (record { key = k; value = v }) room in
+      let n = same_length rs held (record { key = k; value = v }) in
+      let inside : held < length rows = omega (arith, length_places held rs within) in
+      record {
+        within = omega arith;
+        once = subst (λ x. Apart x) (sym eq) (apart_set rows held k o inside only old (of_some o k v refl) once);
+        frame = frame_list held (held + 1) rs (set rs held (record { key = k; value = v })) (length-set rs held (record { key = k; value = v })) within (omega arith);
+        beyond = beyond_write rs held (record { key = k; value = v }) room;
+        revalued = λ q. ap (λ x. lookup bytes x q) eq ∙ revalued_set rows held k o inside only old (of_some o k v refl) bytes apart once q;
+      }
 
   -- a key taken out: the last record stands at its place
-  pub taken_out : (p : ℕ) (k : K) (held' : ℕ) (rs' : List (Record K V)) → PlaceOf bytes held rs k (Some p) → held' ≡ held - 1 → ((d : Record K V) → rs' ≡ set rs p (get_or rs (held - 1) d)) → Changed bytes held held' rs rs' k None
-  taken_out p k held' rs' at fewer e =
+  pub taken_out : (p : ℕ) (k : K) (d : Record K V) → PlaceOf bytes held rs k (Some p) → Changed bytes held (held - 1) rs (set rs p (get_or rs (held - 1) d)) k None
+  taken_out p k d at =
       let rows = places_of held rs in
       let w = holds_row (get_or rows p None) k at.1 in
       let s : Record K V = record { key = k; value = w.0 } in
-      let x : Record K V = get_or rs (held - 1) (record { key = k; value = w.0 }) in
+      let x : Record K V = get_or rs (held - 1) d in
       let b = at.0 in
       let l = length_places held rs within in
-      let n = same_length rs p (get_or rs (held - 1) (record { key = k; value = w.0 })) in
-      let last : get_or rows (held - 1) None ≡ Some (get_or rs (held - 1) (record { key = k; value = w.0 })) = at_held held rs (held - 1) (record { key = k; value = w.0 }) within (omega arith) in
-      let eq : places_of (held - 1) (set rs p (get_or rs (held - 1) (record { key = k; value = w.0 }))) ≡ set (set rows p (get_or rows (held - 1) None)) (held - 1) None
-      = places_fewer held (set rs p (get_or rs (held - 1) (record { key = k; value = w.0 }))) (record { key = k; value = w.0 }) (omega arith) (omega arith)
-      ∙ ap (λ y. set y (held - 1) None) (places_write held rs p (get_or rs (held - 1) (record { key = k; value = w.0 })) within b ∙ ap (λ y. set rows p y) (sym last)) in
-      let changed : Changed bytes held (held - 1) rs (set rs p (get_or rs (held - 1) (record { key = k; value = w.0 }))) k None
-      = record {
+      let n = same_length rs p (get_or rs (held - 1) d) in
+      let last : get_or rows (held - 1) None ≡ Some (get_or rs (held - 1) d) = at_held held rs (held - 1) d within (omega arith) in
+      let eq : places_of (held - 1) (set rs p (get_or rs (held - 1) d)) ≡ set (set rows p (get_or rows (held - 1) None)) (held - 1) None
+      = places_fewer held (set rs p (get_or rs (held - 1) d)) d (omega arith) (omega arith)
+      ∙ ap (λ y. set y (held - 1) None) (places_write held rs p (get_or rs (held - 1) d) within b ∙ ap (λ y. set rows p y) (sym last)) in
+      record {
         within = omega arith;
         once = subst (λ y. Apart y) (sym eq) (apart_taken rows p (held - 1) (record { key = k; value = w.0 }) (omega arith) (omega arith) w.1 once);
-        frame = frame_list held (held - 1) rs (set rs p (get_or rs (held - 1) (record { key = k; value = w.0 }))) (length-set rs p (get_or rs (held - 1) (record { key = k; value = w.0 }))) within (omega arith);
-        beyond = beyond_write rs p (get_or rs (held - 1) (record { key = k; value = w.0 })) (omega arith);
+        frame = frame_list held (held - 1) rs (set rs p (get_or rs (held - 1) d)) (length-set rs p (get_or rs (held - 1) d)) within (omega arith);
+        beyond = beyond_write rs p (get_or rs (held - 1) d) (omega arith);
         revalued = λ q. ap (λ y. lookup bytes y q) eq ∙ revalued_taken rows p (held - 1) (record { key = k; value = w.0 }) (omega arith) (omega arith) w.1 once bytes apart q;
-      } in
-      subst (λ m. Changed bytes held m rs rs' k None) (sym fewer) (subst (λ y. Changed bytes held (held - 1) rs y k None) (sym (e (record { key = k; value = w.0 }))) changed)
+      }
 
   -- the value at the place of a key
   pub looked_at : (p : ℕ) (k : K) (x : Record K V) → PlaceOf bytes held rs k (Some p) → x ≡ get_or rs p x → Some x.value ≡ lookup bytes (places_of held rs) k
@@ -123,23 +130,29 @@ module _ {K V : Type 0} (bytes : K → List ℕ) (apart : (a b : K) → bytes a 
   pub full : (k : K) (v : V) → PlaceOf bytes held rs k None → held ≡ list_capacity (length rs) → SetDone bytes (list_meaning held rs) (list_meaning held rs) k v (Err TableFull)
   full k v none e = (refl, ap is_some none, count_places held rs within ∙ e, refl)
 
-  -- a search that has passed i places
-  abbrev pub Passed : ℕ → K → Type 0
-  Passed i k = (j : ℕ) (x : Record K V) → j < i → get_or (places_of held rs) j None ≡ Some x → x.key ≡ k → ⊥
+  -- whether a record has the key
+  abbrev pub has : K → Record K V → Bool
+  has k r = same_key bytes r.key k
 
-  pub passed_more : (i : ℕ) (k : K) (x : Record K V) → i < held → x ≡ get_or rs i x → same_key bytes x.key k ≡ false → Passed i k → Passed (i + 1) k
-  passed_more i k x b is not passed j y c e own = by_cases (cases_eq j i)
+  -- what a search among the held records finds is where the key stands
+  pub placed : (k : K) (o : Option ℕ) → o ≡ position (has k) (take held rs) → PlaceOf bytes held rs k o
+  placed k (Some i) e = by_cases (slice_get_cases (take held rs) i).1
     where
-      by_cases : (j ≡ i) ⊎ (j ≡ i → ⊥) → ⊥
-      by_cases (inl z) = differ_from bytes x.key k not (ap (λ r. r.key) (some_one x y (sym (at_read held rs i x within b is) ∙ ap (λ n. get_or (places_of held rs) n None) (sym z) ∙ e)) ∙ own)
-      by_cases (inr z) = passed j y (omega arith) e own
-
-  pub passed_all : (i : ℕ) (k : K) → held ≤ i → Passed i k → lookup bytes (places_of held rs) k ≡ None
-  passed_all i k b passed = lookup_absent bytes apart (places_of held rs) k (λ j y e own. by_cases j y e own (cases_lt j held))
+      by_cases : ((x : Record K V) × (i < length (take held rs)) × (slice_get (take held rs) i ≡ Some x) × (get_or (take held rs) i x ≡ x)) ⊎ ((length (take held rs) ≤ i) × (slice_get (take held rs) i ≡ None)) → PlaceOf bytes held rs k (Some i)
+      by_cases (inl (x, b, here, at)) =
+          let t = position-Some (has k) (take held rs) i x (sym e) in
+          let l = length-take-le held rs (omega arith) in
+          (omega arith, holds_from (get_or (places_of held rs) i None) x k (held_row held rs i within ∙ here) (same_is bytes apart x.key k (ap (has k) (sym at) ∙ t.1)))
+      by_cases (inr t) = absurd (let b : i < length (take held rs) = grind (arith, common_steps) in omega (arith, t.0))
+  placed k None e = lookup_absent bytes apart (places_of held rs) k (λ j r here own. by_cases j r here own (cases_lt j held))
     where
-      by_cases : (j : ℕ) (y : Record K V) → get_or (places_of held rs) j None ≡ Some y → y.key ≡ k → (j < held) ⊎ (held ≤ j) → ⊥
-      by_cases j y e own (inl c) = passed j y (omega arith) e own
-      by_cases j y e own (inr c) = none_some y (sym (at_free held rs j within c) ∙ e)
+      passed : held ≤ position_or_len (has k) (take held rs)
+      passed = let l = length-take-le held rs (omega arith) in grind (arith, common_steps)
 
-  pub found_at : (i : ℕ) (k : K) (x : Record K V) → i < held → x ≡ get_or rs i x → same_key bytes x.key k ≡ true → PlaceOf bytes held rs k (Some i)
-  found_at i k x b is same = (b, holds_from (get_or (places_of held rs) i None) x k (at_read held rs i x within b is) (same_is bytes apart x.key k same))
+      by_cases : (j : ℕ) (r : Record K V) → get_or (places_of held rs) j None ≡ Some r → r.key ≡ k → (j < held) ⊎ (held ≤ j) → ⊥
+      by_cases j r here own (inl b) =
+          let p = passed in
+          let is : get_or rs j r ≡ r = some_one (get_or rs j r) r (sym (at_held held rs j r within b) ∙ here) in
+          let not : has k r ≡ false = ap (has k) (sym (get_or-take held rs j r b ∙ is)) ∙ fails_before_first (has k) (take held rs) j r (omega arith) in
+          differ_from bytes r.key k not own
+      by_cases j r here own (inr b) = none_some r (sym (at_free held rs j within b) ∙ here)

@@ -1,7 +1,10 @@
 -- The places of a list: which record stands where, and what a write makes of them.
-use Rattle.std.proofs.Common.{◌≡◌, ℕ, zero, suc, ◌+◌, ◌-◌, ◌<◌, ◌≤◌, ◌⊎◌, List, map, length, get_or, take, drop, set, replicate, Some, None, Option, sym, refl, ap, ◌∙◌, inl, inr, arith}
+use Rattle.std.proofs.Common.{◌≡◌, ℕ, zero, suc, ◌+◌, ◌-◌, ◌<◌, ◌≤◌, ◌⊎◌, List, map, length, get_or, take, drop, set, slice_get, replicate, Some, None, Option, Bor, sym, refl, ap, ◌∙◌, inl, inr, arith}
 use Rattle.std.proofs.lemmas.List.{length-map, length-take-le, length-set, get_or_append_left, get_or-append_right, get_or-map, get_or-take, get_or-set_same, get_or-set_other, ext_get_or, drop-set-lt}
-use Rattle.std.proofs.lemmas.Bool.{cases_eq, cases_lt}
+use Rattle.std.specs.Slice.{IsItemAt}
+use Rattle.std.specs.Option.{option_copied}
+use Rattle.std.proofs.lemmas.Option.{slice_get_cases, slice_get_past, slice_get_read}
+use Rattle.std.proofs.lemmas.Bool.{cases_eq, cases_lt, ltb-true}
 use Rattle.listtable.specs.Lists.{list_capacity, places_of}
 use Rattle.listtable.specs.Propers.{length_places}
 
@@ -32,6 +35,17 @@ at_free {R} held rs i h b =
     let t = length-take-le held rs (omega arith) in
     let m : length (map Some (take held rs)) ≡ held = omega (arith, length-map (take held rs) Some) in
     get_or-append_right (map Some (take held rs)) (replicate (list_capacity (length rs) - held) None) held i None m b ∙ free_row R (list_capacity (length rs) - held) (i - held)
+
+-- a place as the records that are held have it
+pub held_row : {R : Type 0} (held : ℕ) (rs : List R) (i : ℕ) → held ≤ list_capacity (length rs) → get_or (places_of held rs) i None ≡ slice_get (take held rs) i
+held_row {R} held rs i h = by_cases (slice_get_cases (take held rs) i).1
+  where
+    by_cases : ((x : R) × (i < length (take held rs)) × (slice_get (take held rs) i ≡ Some x) × (get_or (take held rs) i x ≡ x)) ⊎ ((length (take held rs) ≤ i) × (slice_get (take held rs) i ≡ None)) → get_or (places_of held rs) i None ≡ slice_get (take held rs) i
+    by_cases (inl (x, b, here, at)) =
+        let l = length-take-le held rs (omega arith) in
+        let k : i < held = omega arith in
+        at_held held rs i x h k ∙ ap Some (sym (get_or-take held rs i x k) ∙ at) ∙ sym here
+    by_cases (inr (past, none)) = let l = length-take-le held rs (omega arith) in at_free held rs i h (omega arith) ∙ sym none
 
 pub none_held : {R : Type 0} (rs : List R) → places_of 0 rs ≡ replicate (list_capacity (length rs)) None
 unfolding places_of
@@ -101,3 +115,8 @@ places_fewer held rs d some h =
 -- what a write below the capacity leaves
 pub beyond_write : {R : Type 0} (rs : List R) (p : ℕ) (r : R) → p < list_capacity (length rs) → drop 65536 (set rs p r) ≡ drop 65536 rs
 beyond_write rs p r b = drop-set-lt 65536 rs p r (omega arith)
+
+-- what is read from a list at a place
+pub item_copied : {R : Type 0} (rs : List R) (i : ℕ) (o : Option (Bor R)) → IsItemAt rs i o → option_copied o ≡ slice_get rs i
+item_copied rs i (Some r) item = sym (slice_get_read rs (length rs) i r.now refl (ltb-true i (length rs) (sym item.0)) item.1)
+item_copied rs i None item = sym (slice_get_past rs i item.3)

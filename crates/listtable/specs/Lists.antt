@@ -1,7 +1,6 @@
 -- A table over lent records, of which the first ones are held.
-use Rattle.std.specs.Prelude.{◌≡◌, ℕ, ◌-◌, ◌<◌, min, true, List, ◌++◌, map, length, take, drop, replicate, Some, None, Option, slice_index_or}
+use Rattle.std.specs.Prelude.{ℕ, ◌-◌, min, true, List, ◌++◌, map, length, take, drop, replicate, Some, None, Option}
 use Rattle.tables.specs.declared.record.Record.{Record}
-use Rattle.tables.specs.Rows.{lookup}
 use Rattle.tables.specs.Meaning.{Meaning}
 
 -- how many keys can be held in so many records: one in each, but in no more than 65,536
@@ -23,13 +22,3 @@ empty_list capacity = record { rows = replicate capacity None; admits = λ _. tr
 -- the records past the last that a table can hold
 abbrev pub beyond_list : {R : Type 0} → List R → List R
 beyond_list records = drop 65536 records
-
--- a row with a record of that key
-abbrev pub Holds : {K V : Type 0} → Option (Record K V) → K → Type 0
-Holds (Some r) k = r.key ≡ k
-Holds None k = ⊥
-
--- Where a key stands among the places of which the first ones are held: at that place, or nowhere.
-abbrev pub PlaceOf : {K V : Type 0} → (K → List ℕ) → ℕ → List (Record K V) → K → Option ℕ → Type 0
-PlaceOf bytes held records k (Some place) = (place < held) × Holds (slice_index_or (places_of held records) place None) k
-PlaceOf bytes held records k None = lookup bytes (places_of held records) k ≡ None

@@ -12,7 +12,7 @@ pub(crate) mod calls;
 /// It admits every key. It has a place for each record lent, but for at most the first 65,536; later ones it never touches.
 #[derive(Drop)]
 pub struct ListTable<'a, K: Kind> {
-    held: u32,
+    held: usize,
     records: &'a mut [Record<K::Key, K::Value>],
     ghost within: { held ≤ list_capacity (length records.now) },
     ghost once: { Apart (places_of held records.now) },

@@ -1,5 +1,5 @@
 -- One operation more: what it makes of a book whose filter holds the fingerprints of the table's keys.
-use Rattle.std.proofs.Common.{◌≡◌, ℕ, ◌*◌, Bool, true, false, List, ◌∷◌, ◌++◌, map, drop, Some, None, Option, sym, refl, ap, ◌∙◌, subst, ⊎_elim}
+use Rattle.std.proofs.Common.{◌≡◌, ℕ, ◌*◌, Bool, true, false, List, ◌∷◌, ◌++◌, map, drop, Some, None, Ok, Err, Option, sym, refl, ap, ◌∙◌, subst, ⊎_elim}
 use Rattle.std.proofs.lemmas.Bool.{cond-true, cond-false, cases_Bool}
 use Rattle.kinds.specs.Keys.{same_key}
 use Rattle.layout.specs.Rule.{sorted}
@@ -7,22 +7,22 @@ use Rattle.layout.specs.Laws.{count}
 use Rattle.filter.specs.Cuts.{cut_to}
 use Rattle.filter.specs.declared.plan.Plan.{Plan}
 use Rattle.filter.specs.Meaning.{size_of}
-use Rattle.filter.specs.Filters.{words_of, fingerprints, laid_over}
+use Rattle.filter.specs.Filters.{SameFilter, words_of, fingerprints, laid_over}
 use Rattle.filter.specs.declared.filter.Filter.{Filter}
 use Rattle.tables.specs.Rows.{keys_of, Apart}
 use Rattle.tables.specs.Meaning.{Meaning, SameFrame, value_in, Revalued}
-use Rattle.history.specs.Rules.{Terms, Rule}
+use Rattle.history.specs.Rules.{Terms, Answer, Rule}
 use Rattle.history.specs.History.{History, Current, holding, Lawful}
 use Rattle.history.specs.declared.operation.Operation.{Operation}
 use Rattle.history.specs.declared.operation.Operation.TheVariants.{Put, Drop, Find}
-use Rattle.history.specs.declared.answer.Answer.{Answer}
-use Rattle.history.specs.declared.answer.Answer.TheVariants.{Kept, Changed, Dropped, Found, Refused}
+use Rattle.history.specs.declared.answer.Stored.TheVariants.{Kept, Changed}
+use Rattle.history.specs.declared.answer.Told.TheVariants.{Stored, Dropped, Found}
 use Rattle.history.proofs.Entries.{Alike, words_alike}
 use Rattle.history.proofs.Keys.{same_is, same_refl, numbers_same}
 use Rattle.history.proofs.Rolls.{length_keys, current_keys, numbers_changed, numbers_new, numbers_dropped}
 use Rattle.history.proofs.Answers.{rule_same}
 use Rattle.history.proofs.Histories.{Step}
-use Rattle.book.specs.Books.{terms_of, held_by, fingerprints_of, SameFilter}
+use Rattle.book.specs.Books.{terms_of, held_by, fingerprints_of}
 use Rattle.replay.specs.Replays.{Done}
 use Rattle.book.proofs.Holding.{frame_self, Holds, holds_alike, holds_more, holds_less, holds_own, holds_then, entries_alike}
 
@@ -50,24 +50,16 @@ module _ {K V : Type 0} (bytes : K → List ℕ) (apart : (a b : K) → bytes a 
 
   -- what the keys hold goes on by the operation
   pub step : (h g : Filter) (x y : Meaning K V) (o : Operation K V) (a : Answer V) → Done bytes number h g x y o a → Step (o, a) (value_in bytes x) (value_in bytes y)
-  step h g x y (Put q w) Kept d =
+  step h g x y (Put q w) (Ok (Stored Kept)) d =
       record { sets = λ k v e. revalued_own x y q k (Some w) d.2 e.0 ∙ sym e.1; keeps = λ k n. revalued_other x y q k (Some w) d.2 (λ e. n (Some w) (e, refl)) }
-  step h g x y (Put q w) Changed d =
+  step h g x y (Put q w) (Ok (Stored Changed)) d =
       record { sets = λ k v e. revalued_own x y q k (Some w) d.1 e.0 ∙ sym e.1; keeps = λ k n. revalued_other x y q k (Some w) d.1 (λ e. n (Some w) (e, refl)) }
-  step h g x y (Put q w) (Refused f) d = record { sets = λ k v e. absurd e; keeps = λ k n. unchanged x y k d.1 }
-  step h g x y (Put q w) Dropped d = absurd d
-  step h g x y (Put q w) (Found f) d = absurd d
-  step h g x y (Drop q) Dropped d =
+  step h g x y (Put q w) (Err f) d = record { sets = λ k v e. absurd e; keeps = λ k n. unchanged x y k d.1 }
+  step h g x y (Drop q) (Ok Dropped) d =
       record { sets = λ k v e. revalued_own x y q k None d.2 e.0 ∙ sym e.1; keeps = λ k n. revalued_other x y q k None d.2 (λ e. n None (e, refl)) }
-  step h g x y (Drop q) (Refused f) d = record { sets = λ k v e. absurd e; keeps = λ k n. unchanged x y k d.1 }
-  step h g x y (Drop q) Kept d = absurd d
-  step h g x y (Drop q) Changed d = absurd d
-  step h g x y (Drop q) (Found f) d = absurd d
-  step h g x y (Find q) (Found f) d = record { sets = λ k v e. absurd e; keeps = λ k n. unchanged x y k d.1 }
-  step h g x y (Find q) Kept d = absurd d
-  step h g x y (Find q) Changed d = absurd d
-  step h g x y (Find q) Dropped d = absurd d
-  step h g x y (Find q) (Refused f) d = absurd d
+  step h g x y (Drop q) (Err f) d = record { sets = λ k v e. absurd e; keeps = λ k n. unchanged x y k d.1 }
+  step h g x y (Find q) (Ok (Found f)) d = record { sets = λ k v e. absurd e; keeps = λ k n. unchanged x y k d.1 }
+  step h g x y o a d = absurd d
 
   -- a book that was opened over filter f and table m, and now has filter h and table x
   module _ (f : Filter) (m : Meaning K V) (h g : Filter) (x y : Meaning K V) (own : Apart x.rows) (own' : Apart y.rows) (holds : Holds f h (fingerprints_of number f x)) where
@@ -80,27 +72,19 @@ module _ {K V : Type 0} (bytes : K → List ℕ) (apart : (a b : K) → bytes a 
 
     -- the filter holds the fingerprints of the keys that the table then has
     pub holds_on : (o : Operation K V) (a : Answer V) → SameFilter h g → Rule (terms_of bytes number h x) (held_by bytes h x) o a → Done bytes number h g x y o a → Holds f g (fingerprints_of number f y)
-    holds_on (Put q w) Kept s r d =
+    holds_on (Put q w) (Ok (Stored Kept)) s r d =
         holds_more f h g (cut_to h.plan (number q)) (fingerprints_of number f x) (fingerprints_of number f y) holds s d.0 d.1
         (mark q (fingerprints_of number f x) (fingerprints_of number f y) (numbers_new bytes apart (λ k. cut_to f.plan (number k)) x y own own' q w r.1 d.2))
-    holds_on (Put q w) Changed s r d =
+    holds_on (Put q w) (Ok (Stored Changed)) s r d =
         subst (λ (z : Filter). Holds f z (fingerprints_of number f y)) (sym d.0)
         (holds_alike f h (fingerprints_of number f x) (fingerprints_of number f y) (numbers_changed bytes apart (λ k. cut_to f.plan (number k)) x y own own' q w r.1 d.1) holds)
-    holds_on (Put q w) (Refused e) s r d = still d.0 d.1
-    holds_on (Put q w) Dropped s r d = absurd d
-    holds_on (Put q w) (Found e) s r d = absurd d
-    holds_on (Drop q) Dropped s r d =
+    holds_on (Put q w) (Err e) s r d = still d.0 d.1
+    holds_on (Drop q) (Ok Dropped) s r d =
         holds_less f h g (cut_to h.plan (number q)) (fingerprints_of number f x) (fingerprints_of number f y) holds s d.0 d.1
         (mark q (fingerprints_of number f y) (fingerprints_of number f x) (numbers_dropped bytes apart (λ k. cut_to f.plan (number k)) x y own own' q r.0 d.2))
-    holds_on (Drop q) (Refused e) s r d = still d.0 d.1
-    holds_on (Drop q) Kept s r d = absurd d
-    holds_on (Drop q) Changed s r d = absurd d
-    holds_on (Drop q) (Found e) s r d = absurd d
-    holds_on (Find q) (Found e) s r d = still d.0 d.1
-    holds_on (Find q) Kept s r d = absurd d
-    holds_on (Find q) Changed s r d = absurd d
-    holds_on (Find q) Dropped s r d = absurd d
-    holds_on (Find q) (Refused e) s r d = absurd d
+    holds_on (Drop q) (Err e) s r d = still d.0 d.1
+    holds_on (Find q) (Ok (Found e)) s r d = still d.0 d.1
+    holds_on o a s r d = absurd d
 
     -- the answer is the one that the rules give for the current keys
     pub rule_on : (o : Operation K V) (a : Answer V) → SameFrame m x → Rule (terms_of bytes number h x) (held_by bytes h x) o a

@@ -10,30 +10,26 @@ use Rattle.history.specs.History.{History, paired, Follows, Current, Lawful}
 use Rattle.history.specs.declared.operation.Operation.{Operation}
 use Rattle.history.specs.declared.operation.Operation.TheVariants.{Put, Drop, Find}
 use Rattle.history.specs.declared.answer.Found.TheVariants as found
-use Rattle.history.specs.declared.answer.Stored.TheVariants.{Kept, Changed}
-use Rattle.history.specs.declared.answer.Answer.{Answer}
-use Rattle.history.specs.declared.answer.Answer.TheVariants as answer
+use Rattle.history.specs.declared.answer.Told.TheVariants.{Stored, Dropped, Found}
+use Rattle.history.specs.Rules.{Answer, Rule}
 use Rattle.book.specs.Books.{terms_of, fingerprints_of, PutDone, DropDone, Opened}
+use Rattle.book.specs.Standings.{Standing, terms_at, held_at}
 use Rattle.replay.specs.declared.fault.ReplayFault.{ReplayFault}
 use Rattle.replay.specs.declared.fault.ReplayFault.TheVariants.{NoMemory, Opening}
 
--- What an operation with its answer makes of filter and table: a find changes neither.
+-- What an operation with its answer makes of filter and table: a find changes neither. No other answer is given.
 abbrev pub Done : {K V : Type 0} → (K → List ℕ) → (K → ℕ) → Filter → Filter → Meaning K V → Meaning K V → Operation K V → Answer V → Type 0
-Done bytes number f g m n (Put k v) answer.Kept = PutDone bytes number f g m n k v (Ok Kept)
-Done bytes number f g m n (Put k v) answer.Changed = PutDone bytes number f g m n k v (Ok Changed)
-Done bytes number f g m n (Put k v) (answer.Refused e) = PutDone bytes number f g m n k v (Err e)
-Done bytes number f g m n (Put k v) answer.Dropped = ⊥
-Done bytes number f g m n (Put k v) (answer.Found x) = ⊥
-Done bytes number f g m n (Drop k) answer.Dropped = DropDone bytes number f g m n k (Ok tt)
-Done bytes number f g m n (Drop k) (answer.Refused e) = DropDone bytes number f g m n k (Err e)
-Done bytes number f g m n (Drop k) answer.Kept = ⊥
-Done bytes number f g m n (Drop k) answer.Changed = ⊥
-Done bytes number f g m n (Drop k) (answer.Found x) = ⊥
-Done bytes number f g m n (Find k) (answer.Found x) = (g ≡ f) × (n ≡ m)
-Done bytes number f g m n (Find k) answer.Kept = ⊥
-Done bytes number f g m n (Find k) answer.Changed = ⊥
-Done bytes number f g m n (Find k) answer.Dropped = ⊥
-Done bytes number f g m n (Find k) (answer.Refused e) = ⊥
+Done bytes number f g m n (Put k v) (Ok (Stored s)) = PutDone bytes number f g m n k v (Ok s)
+Done bytes number f g m n (Put k v) (Err e) = PutDone bytes number f g m n k v (Err e)
+Done bytes number f g m n (Drop k) (Ok Dropped) = DropDone bytes number f g m n k (Ok tt)
+Done bytes number f g m n (Drop k) (Err e) = DropDone bytes number f g m n k (Err e)
+Done bytes number f g m n (Find k) (Ok (Found x)) = (g ≡ f) × (n ≡ m)
+Done bytes number f g m n o a = ⊥
+
+-- an operation on a book as it stands: the answer is the one that the rules give, and filter and table are what it makes of them
+pub record Asked {K V B : Type 0} (bytes : K → List ℕ) (before after : Standing K V B) (o : Operation K V) (a : Answer V) : Type 0 where
+  pub answer : Rule (terms_at bytes before) (held_at bytes before) o a
+  pub done : Done bytes before.number before.filter after.filter before.table after.table o a
 
 -- The law of a book that was opened, and performed all the operations, with these answers.
 pub record Replayed {K V : Type 0} (bytes : K → List ℕ) (number : K → ℕ) (f g : Filter) (m n : Meaning K V) (ops : List (Operation K V)) (answers : List (Answer V)) : Type 0 where
@@ -46,7 +42,7 @@ pub record Replayed {K V : Type 0} (bytes : K → List ℕ) (number : K → ℕ)
   -- the table holds just the current keys, each with the value that its last accepted put gave, or else with that of the opening
   pub table : Follows (value_in bytes m) (paired ops answers) (value_in bytes n)
   -- no key that had a value when it was looked for was answered by the filter alone
-  pub found : (before after : History K V) (k : K) (value : K → Option V) → paired ops answers ≡ before ++ (Find k, answer.Found found.Filter) ∷ after
+  pub found : (before after : History K V) (k : K) (value : K → Option V) → paired ops answers ≡ before ++ (Find k, Ok (Found found.Filter)) ∷ after
       → Follows (value_in bytes m) before value → value k ≡ None
   -- the current keys can be listed, each once
   pub keys : List K

@@ -3,12 +3,14 @@ use Rattle.std.specs.Prelude.{◌≡◌, ℕ, ◌<◌, ◌≤◌, List, ◌++◌
 use Rattle.kinds.specs.declared.kern.Pair.{Pair}
 use Rattle.kinds.specs.declared.sequence.Sequence.{Sequence}
 use Rattle.kinds.specs.Bytes.{pair_bytes, sequence_bytes}
-use Rattle.history.specs.declared.fault.BookFault.{BookFault}
+use Rattle.history.specs.declared.answer.Told.{Told}
+use Rattle.history.specs.Rules.{Answer}
+use Rattle.book.specs.Standings.{Standing}
+use Rattle.replay.specs.Replays.{Asked}
 use Rattle.forms.specs.declared.command.Command.{Command}
 use Rattle.forms.specs.declared.command.Command.TheVariants as command
 use Rattle.forms.specs.declared.fault.LineFault.{LineFault}
 use Rattle.forms.specs.Meaning.{Meant}
-use Rattle.answers.specs.declared.done.Told.{Told}
 use Rattle.answers.specs.declared.done.Done.{Done}
 use Rattle.answers.specs.declared.done.Done.TheVariants.{Kern, Ligature}
 use Rattle.answers.specs.declared.fault.BufferFault.TheVariants.{ShortBuffer}
@@ -16,20 +18,18 @@ use Rattle.answers.specs.declared.fault.Refusal.{Refusal}
 use Rattle.answers.specs.declared.fault.Refusal.TheVariants.{Buffer, Line, Book}
 use Rattle.answers.specs.declared.fault.SheetFault.{SheetFault}
 use Rattle.answers.specs.Texts.{answer_line}
-use Rattle.sheet.specs.Asking.{answer_of}
-use Rattle.sheet.specs.Standings.{Standing, Asked}
 
--- what is replied for a book that told this, where `done` names the book
-abbrev pub reply_of : {V : Type 0} → (Told V → Done) → Result (Told V) BookFault → Result Done Refusal
+-- what is replied for a book that answered this, where `done` names the book
+abbrev pub reply_of : {V : Type 0} → (Told V → Done) → Answer V → Result Done Refusal
 reply_of done (Ok t) = Ok (done t)
 reply_of done (Err e) = Err (Book e)
 
 -- What becomes of a line that means this: one book is asked and the other stays as it is; a line that is refused before leaves both.
 abbrev pub Outcome : {B C : Type 0} → Standing Pair ℤ B → Standing Pair ℤ B → Standing Sequence ℕ C → Standing Sequence ℕ C → Result Command LineFault → Result Done Refusal → Type 0
 Outcome k k' l l' (Ok (command.Kern o)) reply =
-    (t : Result (Told ℤ) BookFault) × Asked pair_bytes k k' o (answer_of t) × (l' ≡ l) × (reply ≡ reply_of Kern t)
+    (a : Answer ℤ) × Asked pair_bytes k k' o a × (l' ≡ l) × (reply ≡ reply_of Kern a)
 Outcome k k' l l' (Ok (command.Ligature o)) reply =
-    (t : Result (Told ℕ) BookFault) × Asked sequence_bytes l l' o (answer_of t) × (k' ≡ k) × (reply ≡ reply_of Ligature t)
+    (a : Answer ℕ) × Asked sequence_bytes l l' o a × (k' ≡ k) × (reply ≡ reply_of Ligature a)
 Outcome k k' l l' (Err e) reply = (k' ≡ k) × (l' ≡ l) × (reply ≡ Err (Line e))
 
 -- what a line does, and what is replied

@@ -1,4 +1,2 @@
-pub mod Asking
-pub mod Standings
 pub mod Doing
 pub mod Sheets

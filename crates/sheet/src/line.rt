@@ -1,13 +1,13 @@
 //! What a line of a sheet does.
 ghost use Rattle.kinds.specs.Bytes.{pair_bytes, sequence_bytes};
-ghost use Rattle.sheet.specs.Standings.{standing, Steady};
+ghost use Rattle.book.specs.Standings.{standing, Steady};
 ghost use Rattle.sheet.specs.Doing.{LineDone, LineWritten};
 
-use crate::asking::ask;
-use crate::lent::Book;
 use answers::{BufferFault, Done, Refusal, SheetFault, write_answer, write_fault};
+use book::Book;
 use forms::{Command, command_of};
 use kinds::{Fingerprint, Kern, Ligature};
+use replay::perform;
 use tables::Table;
 
 // Does a line, and tells what it did or why it is refused.
@@ -28,8 +28,8 @@ fn answer<X: Table<Kern>, P: Fingerprint<Kern>, Y: Table<Ligature>, Q: Fingerpri
         LineDone (kern kerns.old) (kern kerns.new) (ligature ligatures.old) (ligature ligatures.new) line.now result }
 {
     match command_of(line)? {
-        Command::Kern(operation) => Ok(Done::Kern(ask::<Kern, X, P>(kerns, &operation)?)),
-        Command::Ligature(operation) => Ok(Done::Ligature(ask::<Ligature, Y, Q>(
+        Command::Kern(operation) => Ok(Done::Kern(perform::<Kern, X, P>(kerns, &operation)?)),
+        Command::Ligature(operation) => Ok(Done::Ligature(perform::<Ligature, Y, Q>(
             ligatures, &operation,
         )?)),
     }

@@ -1,5 +1,9 @@
-ghost use Rattle.std.specs.Prelude.{◌≡◌};
+ghost use Rattle.std.specs.Prelude.{◌≡◌, Some};
+ghost use Rattle.std.specs.Fmt.{decimal};
 ghost use Rattle.tables.specs.Faults.{number_of};
+
+use std::error::Error;
+use std::fmt;
 
 /// Why a table turns a call away.
 #[derive(Clone, Copy, PartialEq, Eq, Debug)]
@@ -24,3 +28,15 @@ impl TableFault {
         }
     }
 }
+
+/// The number, in decimal digits.
+// kept: Display is implemented for one type at a time, and no macro of the repository may write impls.
+impl fmt::Display for TableFault {
+    ghost output = { λ fault. Some (decimal (number_of fault)) };
+
+    fn fmt<W: fmt::Write>(&self, f: &mut fmt::Formatter<W>) -> fmt::Result {
+        write!(f, "{}", self.number())
+    }
+}
+
+impl Error for TableFault {}

@@ -15,6 +15,7 @@ pub trait Table<K: Kind> {
     ghost meaning: { Self → Meaning K.Key K.Value };
 
     // What the calls rely on, and keep.
+    // kept: a trait has no type invariant, so each call requires this and a change ensures it again.
     ghost sound: { Self → Type 0 };
 
     // What holds of a sound table's meaning.

@@ -7,7 +7,7 @@ use gridtable::GridTable;
 use kinds::{Kern, Pair};
 use listtable::ListTable;
 use std::io;
-use steps::{Said, Step, act};
+use steps::{Step, act};
 use tables::{Record, Table};
 
 /// The glyphs below this have cells in the grid.
@@ -36,35 +36,15 @@ const STEPS: [Step; 19] = [
     Step::Look(Pair { left: 0, right: 1 }),
 ];
 
-/// Prints a call.
-fn print_step(rt: &HostRuntime, step: Step) -> io::Result<()> {
-    match step {
-        Step::Set(Pair { left, right }, value) => print!(rt; "set {left} {right} {value}: "),
-        Step::Remove(Pair { left, right }) => print!(rt; "remove {left} {right}: "),
-        Step::Look(Pair { left, right }) => print!(rt; "look {left} {right}: "),
-    }
-}
-
-/// Prints what a call answered.
-fn print_said(rt: &HostRuntime, said: Said) -> io::Result<()> {
-    match said {
-        Said::Done => println!(rt; "ok"),
-        Said::Value(value) => println!(rt; "{value}"),
-        Said::Nothing => println!(rt; "none"),
-        Said::Refused(fault) => {
-            let number = fault.number();
-            println!(rt; "refused {number}")
-        }
-    }
-}
-
 /// Makes the calls on a table, and prints them with their answers.
 fn try_table<X: Table<Kern>>(rt: &HostRuntime, table: &mut X) -> io::Result<()>
     requires { X.Table.sound table.old }
 {
     for step in &STEPS {
-        print_step(rt, *step)?;
-        print_said(rt, act(table, *step))?;
+        match act(table, *step) {
+            Ok(reply) => println!(rt; "{step}: {reply}")?,
+            Err(fault) => println!(rt; "{step}: refused {fault}")?,
+        }
     }
     let held = table.held();
     let capacity = table.capacity();

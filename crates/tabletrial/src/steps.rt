@@ -1,11 +1,13 @@
 //! Calls on a table as values, for any table of kerning pairs.
-ghost use Rattle.std.specs.Prelude.{◌≡◌};
-ghost use Rattle.tabletrial.specs.Steps.{Acted};
+ghost use Rattle.std.specs.Prelude.{◌≡◌, Some};
+ghost use Rattle.tabletrial.specs.Steps.{Acted, step_text, reply_text};
 
 use kinds::{Kern, Pair};
+use std::fmt;
 use tables::{Table, TableFault};
 
 /// A call on a table.
+// kept: each is printed before its answer, which a closure could not be.
 #[derive(Clone, Copy)]
 pub enum Step {
     Set(Pair, i16),
@@ -13,17 +15,17 @@ pub enum Step {
     Look(Pair),
 }
 
-/// What a call answers.
+/// What a call answers, if it is not refused.
 #[derive(Clone, Copy)]
-pub enum Said {
+pub enum Reply {
+    /// The table is changed.
     Done,
-    Value(i16),
-    Nothing,
-    Refused(TableFault),
+    /// What was looked up: the value of the pair, or none.
+    Value(Option<i16>),
 }
 
 /// Makes a call on a table.
-pub fn act<X: Table<Kern>>(table: &mut X, step: Step) -> Said
+pub fn act<X: Table<Kern>>(table: &mut X, step: Step) -> Result<Reply, TableFault>
     requires { X.Table.sound table.old }
     ensures sound { X.Table.sound table.new }
     ensures lender { X.Table.lender table.new ≡ X.Table.lender table.old }
@@ -31,17 +33,35 @@ pub fn act<X: Table<Kern>>(table: &mut X, step: Step) -> Said
     ensures acted { Acted (X.Table.meaning table.old) (X.Table.meaning table.new) step result }
 {
     match step {
-        Step::Set(pair, value) => match table.set(pair, value) {
-            Ok(()) => Said::Done,
-            Err(fault) => Said::Refused(fault),
-        },
-        Step::Remove(pair) => match table.remove(pair) {
-            Ok(()) => Said::Done,
-            Err(fault) => Said::Refused(fault),
-        },
-        Step::Look(pair) => match table.look(pair) {
-            Some(value) => Said::Value(value),
-            None => Said::Nothing,
-        },
+        Step::Set(pair, value) => table.set(pair, value)?,
+        Step::Remove(pair) => table.remove(pair)?,
+        Step::Look(pair) => return Ok(Reply::Value(table.look(pair))),
+    }
+    Ok(Reply::Done)
+}
+
+/// The call, its pair and, where it sets one, the value.
+impl fmt::Display for Step {
+    ghost output = { λ step. Some (step_text step) };
+
+    fn fmt<W: fmt::Write>(&self, f: &mut fmt::Formatter<W>) -> fmt::Result {
+        match self {
+            Step::Set(Pair { left, right }, value) => write!(f, "set {left} {right} {value}"),
+            Step::Remove(Pair { left, right }) => write!(f, "remove {left} {right}"),
+            Step::Look(Pair { left, right }) => write!(f, "look {left} {right}"),
+        }
+    }
+}
+
+/// The value that was looked up, `none`, or `ok` where a call has nothing to tell.
+impl fmt::Display for Reply {
+    ghost output = { λ reply. Some (reply_text reply) };
+
+    fn fmt<W: fmt::Write>(&self, f: &mut fmt::Formatter<W>) -> fmt::Result {
+        match self {
+            Reply::Done => write!(f, "ok"),
+            Reply::Value(Some(value)) => write!(f, "{value}"),
+            Reply::Value(None) => write!(f, "none"),
+        }
     }
 }

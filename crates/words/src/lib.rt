@@ -38,29 +38,24 @@ pub fn bit(w: u64, i: u32) -> bool
     down(w, i) % 2 == 1
 }
 
-/// `w` with the bit at place `i` made `v`, and every other bit as it was.
-fn put_bit(w: u64, i: u32, v: u64) -> u64
-    requires { (i < 64) × (v < 2) }
-    ensures { (k : ℕ) → bit_at result k ≡ (if nat_eq k i then v else bit_at w k) }
+/// `w` with the bit at place `i` made `b`, and every other bit as it was.
+fn put_bit(w: u64, i: u32, b: bool) -> u64
+    requires { i < 64 }
+    ensures { (k : ℕ) → bit_at result k ≡ (if nat_eq k i then (if b then 1 else 0) else bit_at w k) }
 {
-    (w & !(1 << i)) | (v << i)
+    (w & !(1 << i)) | (u64::from(b) << i)
 }
 
 /// `w` with the bit at place `i` made `b`, and every other bit as it was: `w` itself where `i` is past the word.
 pub fn with_bit(w: u64, i: u32, b: bool) -> u64
     ensures { (k : ℕ) → k < 64 → bit_at result k ≡ (if nat_eq k i then (if b then 1 else 0) else bit_at w k) }
 {
-    if i < 64 {
-        put_bit(w, i, u64::from(b))
-    } else {
-        w
-    }
+    if i < 64 { put_bit(w, i, b) } else { w }
 }
 
-/// How many of the places of `w` below `n` hold a one.
-fn ones_below(w: u64, n: u32) -> u32
-    requires { n ≤ 64 }
-    ensures { result ≡ ones_under w n }
+/// How many of the places of `w` below `n` hold a one: of all places where `n` is 64 or more.
+pub fn ones_below(w: u64, n: u32) -> u32
+    ensures { result ≡ ones_under w (min n 64) }
 {
     if n < 64 {
         (w & ((1 << n) - 1)).count_ones()
@@ -73,11 +68,7 @@ fn ones_below(w: u64, n: u32) -> u32
 pub fn rank(w: u64, i: u32) -> u32
     ensures { result ≡ ones_under w (min (i + 1) 64) }
 {
-    if i < 63 {
-        ones_below(w, i + 1)
-    } else {
-        ones_below(w, 64)
-    }
+    ones_below(w, i.saturating_add(1))
 }
 
 /// The place of the `k`-th one of `w`, counted from 1 at the lowest: none where there are fewer, or where `k` is 0.
@@ -88,22 +79,24 @@ pub fn select(w: u64, k: u32) -> Option<u32>
         return None;
     }
     let mut rest = w;
-    let mut left = k;
-    while rest != 0 {
-        if left == 1 {
-            return Some(rest.trailing_zeros());
+    for _ in 1..k {
+        if rest == 0 {
+            return None;
         }
         rest &= rest - 1;
-        left -= 1;
     }
-    None
+    if rest == 0 {
+        None
+    } else {
+        Some(rest.trailing_zeros())
+    }
 }
 
 /// The word at `j`: 0 past the last one.
 pub fn word(words: &[u64], j: usize) -> u64
     ensures { result ≡ slice_index words.now j }
 {
-    if j < words.len() { words[j] } else { 0 }
+    words.get(j).copied().unwrap_or(0)
 }
 
 /// The word where a place of the row lies, and the next one above it, as one number.

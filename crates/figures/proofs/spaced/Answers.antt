@@ -1,7 +1,7 @@
 use Rattle.std.proofs.Common.{refl, rules}
 use Rattle.std.proofs.lemmas.Result.{err_from_is_err_and}
-use Rattle.figures.proofs.Runs.{begins, not_begun}
-use Rattle.figures.proofs.Pairs.{spaced_none, spaced_other, spaced_read}
+use Rattle.figures.proofs.Runs.{not_begun}
+use Rattle.figures.proofs.Pairs.{spaced_none, spaced_other}
 use Rattle.figures.proofs.spaced.Goals as goal
 
 pub returns-in_err-figure : goal.returns-in_err-figure
@@ -9,11 +9,6 @@ returns-in_err-figure c =
     let p = err_from_is_err_and c.from_residual.result c.from_residual.ensures.1 in
     let told = c.in_err-figure.ensures in
     rw (p.1, p.2) (told.0, spaced_none c.args.bytes.now told.1)
-
-pub returns-in_default-eq32 : goal.returns-in_default-eq32
-returns-in_default-eq32 c =
-    let rest = c.in_ok-figure.field-0.1.now in
-    spaced_read c.args.bytes.now rest _ c.in_ok-figure.field-0.0 c.in_ok-figure.ensures (begins rest 32 (search rules) (search rules))
 
 pub returns-in_default : goal.returns-in_default
 returns-in_default c =

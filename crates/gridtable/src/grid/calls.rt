@@ -1,6 +1,6 @@
 //! The calls on a grid table.
-ghost use Rattle.std.specs.Prelude.{◌≡◌, ℕ, ◌+◌, ◌-◌, ◌*◌, ◌<◌, ◌≤◌, true, false, List, length, ℤ, is_some, if◌then◌else◌, Some, None, slice_index_or, slice_set};
-ghost use Rattle.gridtable.specs.Grids.{side_of, in_square, place_of, pair_at, free_cell, value_of, row_of, grid_rows, grid_meaning, empty_grid, emptied, beyond_grid, HeldPlace};
+ghost use Rattle.std.specs.Prelude.{◌≡◌, ◌<◌, List, length, ℤ, if◌then◌else◌, Some, None, slice_index_or};
+ghost use Rattle.gridtable.specs.Grids.{side_of, in_square, place_of, free_cell, value_of, grid_meaning, empty_grid, emptied, beyond_grid, HeldPlace};
 ghost use Rattle.gridtable.specs.Propers.{proper_grid};
 
 use crate::grid::GridTable;
@@ -11,6 +11,7 @@ use tables::{Record, Table, TableFault};
 const MOST: u32 = 1_024;
 
 /// What a free cell is given: one more than the greatest value.
+// kept: the cells are lent memory in the customer's format, a signed 32-bit number each, so a number frees one; the calls see an `Option`.
 const FREE: i32 = 32_768;
 
 /// The side of the square that a grid makes of so many cells.
@@ -28,67 +29,7 @@ fn side_of(n: u32, lent: usize) -> u32
 fn value_of(cell: i32) -> Option<i16>
     ensures { result ≡ value_of cell }
 {
-    if cell >= i16::MIN as i32 && cell <= i16::MAX as i32 {
-        Some(cell as i16)
-    } else {
-        None
-    }
-}
-
-/// The value in the cell of a place, if it is not free.
-fn value_at(cells: &[i32], place: usize) -> Option<i16>
-    requires { place < length cells.now }
-    ensures { result ≡ value_of (slice_index_or cells.now place free_cell) }
-{
-    value_of(cells[place])
-}
-
-/// Frees the cells of a square.
-fn clear(cells: &mut [i32], side: u32)
-    requires small { side ≤ 1024 }
-    requires room { side * side ≤ length cells.old }
-    ensures { cells.new ≡ emptied side cells.old }
-{
-    for i in 0..side as usize * side as usize {
-        cells[i] = FREE;
-    }
-}
-
-/// Where the cell of a pair lies, if both glyphs are below the side.
-fn place_of(side: u32, pair: Pair) -> Option<usize>
-    requires { side ≤ 1024 }
-    ensures { result ≡ (if in_square side pair then Some (place_of side pair) else None) }
-{
-    let Pair { left, right } = pair;
-    if (left as u32) < side && (right as u32) < side {
-        Some(left as usize * side as usize + right as usize)
-    } else {
-        None
-    }
-}
-
-/// Writes a value into a cell, which counts if it was free.
-fn write(cells: &mut [i32], held: &mut u32, place: usize, value: i16)
-    requires place { place < length cells.old }
-    requires few { held.old ≤ 1048576 }
-    ensures cells { cells.new ≡ slice_set cells.old place value }
-    ensures held { held.new ≡ (if is_some (value_of (slice_index_or cells.old place free_cell)) then held.old else held.old + 1) }
-{
-    if value_at(cells, place).is_none() {
-        *held += 1;
-    }
-    cells[place] = value as i32;
-}
-
-/// Frees a cell that held a value.
-fn free(cells: &mut [i32], held: &mut u32, place: usize)
-    requires place { place < length cells.old }
-    requires some { 0 < held.old }
-    ensures cells { cells.new ≡ slice_set cells.old place free_cell }
-    ensures held { held.new ≡ held.old - 1 }
-{
-    cells[place] = FREE;
-    *held -= 1;
+    i16::try_from(cell).ok()
 }
 
 impl<'a> GridTable<'a> {
@@ -101,7 +42,7 @@ impl<'a> GridTable<'a> {
         ensures lender { result.cells.ghost_name ≡ cells.entry.ghost_name }
     {
         let side = side_of(n, cells.len());
-        clear(cells, side);
+        cells[..side as usize * side as usize].fill(FREE);
         GridTable {
             side,
             held: 0,
@@ -111,16 +52,29 @@ impl<'a> GridTable<'a> {
 }
 
 impl GridTable<'_> {
+    /// Where the cell of a pair lies, if the pair is admitted.
+    fn place(&self, pair: Pair) -> Option<usize>
+        ensures { result ≡ (if in_square self.now.side pair then Some (place_of self.now.side pair) else None) }
+    {
+        let Pair { left, right } = pair;
+        let inside = u32::from(left) < self.side && u32::from(right) < self.side;
+        inside.then_some(usize::from(left) * self.side as usize + usize::from(right))
+    }
+
+    /// The value in the cell of a place, if it is not free.
+    fn value_at(&self, place: usize) -> Option<i16>
+        requires { place < length self.now.cells.now }
+        ensures { result ≡ value_of (slice_index_or self.now.cells.now place free_cell) }
+    {
+        value_of(self.cells[place])
+    }
+
     /// The place of a pair, if it is held.
     fn held_place(&self, pair: Pair) -> Option<usize>
         ensures { HeldPlace self.now.side self.now.cells.now pair result }
     {
-        let place = place_of(self.side, pair)?;
-        if value_at(self.cells, place).is_some() {
-            Some(place)
-        } else {
-            None
-        }
+        let place = self.place(pair)?;
+        self.value_at(place).is_some().then_some(place)
     }
 }
 
@@ -138,10 +92,8 @@ impl<'a> Table<Kern> for GridTable<'a> {
     ghost beyond = { λ t. beyond_grid t.side t.cells.now };
 
     fn look(&self, key: Pair) -> Option<i16> {
-        match place_of(self.side, key) {
-            Some(place) => value_at(self.cells, place),
-            None => None,
-        }
+        let place = self.place(key)?;
+        self.value_at(place)
     }
 
     fn peek(&self, place: u32) -> Option<Record<Pair, i16>> {
@@ -152,14 +104,12 @@ impl<'a> Table<Kern> for GridTable<'a> {
             left: (place / self.side) as u16,
             right: (place % self.side) as u16,
         };
-        match value_at(self.cells, place as usize) {
-            Some(value) => Some(Record { key, value }),
-            None => None,
-        }
+        let value = self.value_at(place as usize)?;
+        Some(Record { key, value })
     }
 
     fn admits(&self, key: Pair) -> bool {
-        (key.left as u32) < self.side && (key.right as u32) < self.side
+        self.place(key).is_some()
     }
 
     fn held(&self) -> u32 {
@@ -175,20 +125,17 @@ impl<'a> Table<Kern> for GridTable<'a> {
     }
 
     fn set(&mut self, key: Pair, value: i16) -> Result<(), TableFault> {
-        let Some(place) = place_of(self.side, key) else {
-            return Err(TableFault::ForeignGlyph);
-        };
-        let GridTable { held, cells, .. } = self;
-        write(cells, held, place, value);
+        let place = self.place(key).ok_or(TableFault::ForeignGlyph)?;
+        let added = u32::from(self.value_at(place).is_none());
+        self.cells[place] = i32::from(value);
+        self.held += added;
         Ok(())
     }
 
     fn remove(&mut self, key: Pair) -> Result<(), TableFault> {
-        let Some(place) = self.held_place(key) else {
-            return Err(TableFault::NotHeld);
-        };
-        let GridTable { held, cells, .. } = self;
-        free(cells, held, place);
+        let place = self.held_place(key).ok_or(TableFault::NotHeld)?;
+        self.cells[place] = FREE;
+        self.held -= 1;
         Ok(())
     }
 }

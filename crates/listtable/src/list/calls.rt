@@ -1,7 +1,9 @@
 //! The calls on a list table.
-ghost use Rattle.std.specs.Prelude.{◌≡◌, ℕ, ◌+◌, ◌-◌, ◌<◌, ◌≤◌, List, length, set, replicate, slice_index_or, slice_set, refl};
+ghost use Rattle.std.specs.Prelude.{◌≡◌, List, length, take};
+ghost use Rattle.std.specs.List.{position};
+ghost use Rattle.kinds.specs.Keys.{same_key};
 ghost use Rattle.tables.specs.declared.record.Record.{Record as Entry};
-ghost use Rattle.listtable.specs.Lists.{list_capacity, places_of, list_meaning, empty_list, beyond_list, PlaceOf};
+ghost use Rattle.listtable.specs.Lists.{list_capacity, list_meaning, empty_list, beyond_list};
 ghost use Rattle.listtable.specs.Propers.{proper_list};
 
 use crate::list::ListTable;
@@ -10,73 +12,6 @@ use tables::{Record, Table, TableFault};
 
 /// No list holds more keys.
 const MOST: usize = 65_536;
-
-/// How many keys can be held in so many records.
-fn capacity_of(lent: usize) -> u32
-    ensures { result ≡ list_capacity lent }
-{
-    lent.min(MOST) as u32
-}
-
-/// The place of a key among the first `held` records, if one of them has it.
-fn place_of<K: Kind>(records: &[Record<K::Key, K::Value>], held: u32, key: K::Key) -> Option<u32>
-    requires { held ≤ list_capacity (length records.now) }
-    ensures { PlaceOf K.Kind.bytes held records.now key result }
-{
-    for place in 0..held {
-        let record = records[place as usize];
-        if K::same(&record.key, &key) {
-            return Some(place);
-        }
-    }
-    None
-}
-
-/// The record at a place.
-fn record_at<K: Kind>(records: &[Record<K::Key, K::Value>], place: u32) -> Record<K::Key, K::Value>
-    requires { place < length records.now }
-    ensures { result ≡ slice_index_or records.now place result }
-{
-    records[place as usize]
-}
-
-/// Writes a record over another.
-fn write<K: Kind>(
-    records: &mut [Record<K::Key, K::Value>],
-    place: u32,
-    record: Record<K::Key, K::Value>,
-)
-    requires { place < length records.old }
-    ensures { records.new ≡ set records.old place «record» }
-{
-    records[place as usize] = record;
-}
-
-/// Puts a record after those that are held.
-fn append<K: Kind>(
-    records: &mut [Record<K::Key, K::Value>],
-    held: &mut u32,
-    record: Record<K::Key, K::Value>,
-)
-    requires { held.old < list_capacity (length records.old) }
-    ensures records { records.new ≡ set records.old held.old «record» }
-    ensures held { held.new ≡ held.old + 1 }
-{
-    records[*held as usize] = record;
-    *held += 1;
-}
-
-/// Takes out the record at a place: the last one that is held comes to stand there.
-fn take_out<K: Kind>(records: &mut [Record<K::Key, K::Value>], held: &mut u32, place: u32)
-    requires within { held.old ≤ list_capacity (length records.old) }
-    requires place { place < held.old }
-    ensures records { (d : Entry K.Key K.Value) → records.new ≡ slice_set records.old place (slice_index_or records.old (held.old - 1) d) }
-    ensures held { held.new ≡ held.old - 1 }
-{
-    *held -= 1;
-    let last = records[*held as usize];
-    records[place as usize] = last;
-}
 
 impl<'a, K: Kind> ListTable<'a, K> {
     /// Begins an empty table over records. They stay as they are until calls write them.
@@ -90,11 +25,20 @@ impl<'a, K: Kind> ListTable<'a, K> {
 }
 
 impl<K: Kind> ListTable<'_, K> {
-    /// The place of a key, if it is held.
-    fn place(&self, key: K::Key) -> Option<u32>
-        ensures { PlaceOf K.Kind.bytes self.now.held self.now.records.now key result }
+    /// The records that are held.
+    fn entries(&self) -> &[Record<K::Key, K::Value>]
+        ensures { result.now ≡ take self.now.held self.now.records.now }
     {
-        place_of::<K>(self.records, self.held, key)
+        &self.records[..self.held]
+    }
+
+    /// The place of a key, if it is held.
+    fn place(&self, key: K::Key) -> Option<usize>
+        ensures { result ≡ position (λ entry. same_key K.Kind.bytes entry.key key) (take self.now.held self.now.records.now) }
+    {
+        self.entries()
+            .iter()
+            .position(|entry| K::same(&entry.key, &key))
     }
 }
 
@@ -112,18 +56,12 @@ impl<'a, K: Kind> Table<K> for ListTable<'a, K> {
     ghost beyond = { λ t. beyond_list t.records.now };
 
     fn look(&self, key: K::Key) -> Option<K::Value> {
-        match self.place(key) {
-            Some(place) => Some(record_at::<K>(self.records, place).value),
-            None => None,
-        }
+        let place = self.place(key)?;
+        Some(self.records[place].value)
     }
 
     fn peek(&self, place: u32) -> Option<Record<K::Key, K::Value>> {
-        if place < self.held {
-            Some(record_at::<K>(self.records, place))
-        } else {
-            None
-        }
+        self.entries().get(place as usize).copied()
     }
 
     fn admits(&self, key: K::Key) -> bool {
@@ -131,11 +69,11 @@ impl<'a, K: Kind> Table<K> for ListTable<'a, K> {
     }
 
     fn held(&self) -> u32 {
-        self.held
+        self.held as u32
     }
 
     fn capacity(&self) -> u32 {
-        capacity_of(self.records.len())
+        self.records.len().min(MOST) as u32
     }
 
     fn places(&self) -> u32 {
@@ -145,24 +83,21 @@ impl<'a, K: Kind> Table<K> for ListTable<'a, K> {
     fn set(&mut self, key: K::Key, value: K::Value) -> Result<(), TableFault> {
         let record = Record { key, value };
         if let Some(place) = self.place(key) {
-            let ListTable { records, .. } = self;
-            write::<K>(records, place, record);
+            self.records[place] = record;
             return Ok(());
         }
-        if self.held == self.capacity() {
+        if self.held() == self.capacity() {
             return Err(TableFault::TableFull);
         }
-        let ListTable { held, records } = self;
-        append::<K>(records, held, record);
+        self.records[self.held] = record;
+        self.held += 1;
         Ok(())
     }
 
     fn remove(&mut self, key: K::Key) -> Result<(), TableFault> {
-        let Some(place) = self.place(key) else {
-            return Err(TableFault::NotHeld);
-        };
-        let ListTable { held, records } = self;
-        take_out::<K>(records, held, place);
+        let place = self.place(key).ok_or(TableFault::NotHeld)?;
+        self.records[place] = self.records[self.held - 1];
+        self.held -= 1;
         Ok(())
     }
 }

@@ -1,9 +1,8 @@
-use Rattle.std.proofs.Common.{length, vec_items}
+use Rattle.std.proofs.Common.{vec_items}
+use Rattle.figures.specs.Lines.{lines_of}
+use Rattle.figures.specs.Coming.{lines_left}
 use Rattle.batch.proofs.Growing.{Sofar}
 use Rattle.batch.proofs.reading.batch_of.Given as goal
 
 abbrev pub invariant-loop-line : goal.invariant-loop-line
-invariant-loop-line l = Sofar l.text l.left (vec_items l.batch.kerns) (vec_items l.batch.ligatures) (vec_items l.batch.lines)
-
-abbrev pub decreases-loop-line : goal.decreases-loop-line
-decreases-loop-line l = length l.left
+invariant-loop-line l = Sofar (lines_of l.text) (lines_left l.line-iterator) (vec_items l.batch.kerns) (vec_items l.batch.ligatures) (vec_items l.batch.lines)

@@ -1,6 +1,10 @@
-use Rattle.std.proofs.Common.{vec_items}
-use Rattle.batch.proofs.Tellings.{Sofar}
+use Rattle.std.proofs.Common.{◌≡◌, ◌+◌, ◌++◌, drop, vec_items}
+use Rattle.std.specs.Slice.Iter.{iter_rest}
+use Rattle.batch.specs.Reports.{refused_from}
 use Rattle.batch.proofs.reporting.refused_lines.Given as goal
 
+-- what is told so far, and then what the lines and the answers that are left tell
 abbrev pub invariant-loop-i : goal.invariant-loop-i
-invariant-loop-i l = Sofar l.lines l.kerns l.ligatures (vec_items l.refused) l.i l.kern l.ligature
+invariant-loop-i l =
+    refused_from 1 l.lines l.kerns l.ligatures
+    ≡ vec_items l.refused ++ refused_from (l.i + 1) (drop l.i l.lines) (iter_rest l.kerns_left) (iter_rest l.ligatures_left)

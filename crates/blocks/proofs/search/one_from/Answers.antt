@@ -9,8 +9,8 @@ overflow_add-ones_below c =
     let at : min c.args.i 64 ≡ c.args.i = omega arith in
     omega (arith, c.ones_below.ensures, ap (ones_under c.args.w) at, ones_few c.args.w 64)
 
-pub returns-in-Some : goal.returns-in-Some
-returns-in-Some c =
+pub returns : goal.returns
+returns c =
     let w = c.args.w in
     let i = c.args.i in
     let p = c.in-Some.p in
@@ -24,8 +24,8 @@ returns-in-Some c =
       nth = omega (arith, s.2, e);
     }
 
-pub returns-in-None : goal.returns-in-None
-returns-in-None c =
+pub unreachable : goal.unreachable
+unreachable c =
     let at : min c.args.i 64 ≡ c.args.i = omega arith in
     let e = c.ones_below.ensures ∙ ap (ones_under c.args.w) at in
-    absurd (⊎_elim (λ l. omega arith) (λ l. omega arith) c.in-None.ensures)
+    ⊎_elim (λ l. omega arith) (λ l. omega arith) c.in_default.ensures

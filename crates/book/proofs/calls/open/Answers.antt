@@ -1,14 +1,12 @@
-use Rattle.std.proofs.Common.{◌≡◌, ◌<◌, ◌≤◌, [], length, ap, subst, arith}
+use Rattle.std.proofs.Common.{◌≡◌, ◌<◌, ◌≤◌, [], length, ap, sym, ◌∙◌, subst, arith}
 use Rattle.filter.specs.Cuts.{cut_to}
-use Rattle.filter.specs.Filters.{words_of, cleared_over}
+use Rattle.filter.specs.Filters.{SameFilter, words_of, cleared_over}
 use Rattle.filter.specs.declared.filter.Filter.{Filter}
 use Rattle.history.specs.declared.fault.BookFault.TheVariants.{Filter as FromFilter}
-use Rattle.book.specs.Books.{SameFilter}
 use Rattle.book.proofs.Refusals.{add_refused, cut_by}
 use Rattle.book.proofs.Holding.{Holds, same_then, holds_none, holds_then, cleared_again}
 use Rattle.book.proofs.Opening.{filled_none, filled_free, filled_record, crowded_record, filled_all, crowded_all}
 use Rattle.book.proofs.calls.open.Goals as goal
-use Rattle.book.proofs.calls.open.Goals.{in-Some+in_default-add, in_default}
 
 pub loop-place-init : goal.loop-place-init
 loop-place-init g c = filled_none (g.P.Fingerprint.number c.args.by.now) c.clear.new.self (g.X.Table.meaning c.args.table.now).rows c.clear.ensures.empty
@@ -20,17 +18,17 @@ returns-in-Err g c =
     let f = c.args.filter.now in
     let e = c.clear.new.self in
     let h = c.loop-place.filter in
-    let s : SameFilter f e = record { plan = c.clear.ensures.plan; blocks = c.clear.ensures.blocks; lender = c.clear.ensures.name } in
+    let s : SameFilter f e = c.clear.ensures.same in
     let is : c.fingerprint_of.result ≡ cut_to h.plan (number c.in-Some.record.key) =
     cut_by c.fingerprint_of.result (number c.in-Some.record.key) c.plan.result h.plan c.fingerprint_of.ensures c.plan.ensures in
     let r = add_refused h c.add.new.self c.fingerprint_of.result (number c.in-Some.record.key) c.in-Err.fault is c.in-Err.ensures.done in
     let l : c.loop-place.place < length m.rows = omega (arith, c.loop-place-test.true, c.places-place-end.ensures) in
-    let t : SameFilter c.add.new.self c.clear-in-Err.new.self = record { plan = c.clear-in-Err.ensures.plan; blocks = c.clear-in-Err.ensures.blocks; lender = c.clear-in-Err.ensures.name } in
+    let t : SameFilter c.add.new.self c.clear-in-Err.new.self = c.clear-in-Err.ensures.same in
     let back : Holds f h _ = holds_then f e h [] _ (holds_none f e s c.clear.ensures.empty c.clear.ensures.words) c.loop-place.invariant.holds in
     record {
       filter = same_then f h c.clear-in-Err.new.self back.same (subst (λ (x : Filter). SameFilter x c.clear-in-Err.new.self) r.2 t);
       done = (
-        ap FromFilter r.0,
+        c.into.ensures ∙ ap FromFilter r.0,
         crowded_all number f e m s (crowded_record number e m.rows h c.loop-place.place c.in-Some.record l c.in-Some.ensures c.loop-place.invariant c.fingerprint_of.result is r.1),
         c.clear-in-Err.ensures.empty,
         cleared_again f h c.clear-in-Err.new.self _ back
@@ -38,22 +36,23 @@ returns-in-Err g c =
       );
     }
 
+pub loop-place-preserved-in_default : goal.loop-place-preserved-in_default
+loop-place-preserved-in_default g c =
+    let number = g.P.Fingerprint.number c.args.by.now in
+    let m = g.X.Table.meaning c.args.table.now in
+    filled_free number c.clear.new.self m.rows c.loop-place.filter c.loop-place.place (omega (arith, c.loop-place-test.true, c.places-place-end.ensures)) (sym c.in_default.is ∙ c.peek.ensures) c.loop-place.invariant
+
 pub loop-place-preserved : goal.loop-place-preserved
 loop-place-preserved g c =
     let number = g.P.Fingerprint.number c.args.by.now in
     let m = g.X.Table.meaning c.args.table.now in
-    let e = c.clear.new.self in
     let h = c.loop-place.filter in
     let i = c.loop-place.place in
     let l : i < length m.rows = omega (arith, c.loop-place-test.true, c.places-place-end.ensures) in
-    elim c.match-peek.branch [
-      | in-Some+in_default-add w ↦
-          let a = w.in_default-add.ensures in
-          filled_record number e m.rows h i w.in-Some.record l w.in-Some.ensures c.loop-place.invariant w.fingerprint_of.result
-          (cut_by w.fingerprint_of.result (number w.in-Some.record.key) w.plan.result h.plan w.fingerprint_of.ensures w.plan.ensures)
-          w.add.new.self c.match-peek.filter w.filter-is a.plan a.blocks a.name a.done
-      | in_default w ↦ filled_free number e m.rows h i c.match-peek.filter w.filter-is l w.in_default.ensures c.loop-place.invariant
-    ]
+    let a = c.in_default-add.ensures in
+    filled_record number c.clear.new.self m.rows h i c.in-Some.record l c.in-Some.ensures c.loop-place.invariant c.fingerprint_of.result
+    (cut_by c.fingerprint_of.result (number c.in-Some.record.key) c.plan.result h.plan c.fingerprint_of.ensures c.plan.ensures)
+    c.add.new.self a.same a.done
 
 pub returns : goal.returns
 returns g c =
@@ -61,7 +60,7 @@ returns g c =
     let m = g.X.Table.meaning c.args.table.now in
     let f = c.args.filter.now in
     let e = c.clear.new.self in
-    let s : SameFilter f e = record { plan = c.clear.ensures.plan; blocks = c.clear.ensures.blocks; lender = c.clear.ensures.name } in
+    let s : SameFilter f e = c.clear.ensures.same in
     let l : length m.rows ≤ c.loop-place.place = omega (arith, c.loop-place-test.false, c.places-place-end.ensures) in
     let d = filled_all number f e m s c.loop-place.filter c.loop-place.place l (holds_none f e s c.clear.ensures.empty c.clear.ensures.words) c.loop-place.invariant in
     record { filter = d.0.same; done = (d.1, d.0.entries, d.0.words) }

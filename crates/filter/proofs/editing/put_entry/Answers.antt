@@ -1,72 +1,38 @@
-use Rattle.std.proofs.Common.{ℕ, ◌+◌, ◌^◌, ◌<◌, ◌≤◌, eqb, ltb, sym, ap, ◌∙◌, subst, mod-lt, arith, pow_pos, rules}
-use Rattle.std.proofs.lemmas.Bool.{and_parts, ltb-true}
-use Rattle.layout.specs.Rule.{quotient, remainder, many, insert}
-use Rattle.layout.specs.Load.{start}
-use Rattle.blocks.specs.Views.{remainder_in}
-use Rattle.words.proofs.Rows.{Words}
-use Rattle.layout.proofs.Inserts.{sorted_insert}
-use Rattle.blocks.specs.Views.{Shows}
-use Rattle.blocks.proofs.Forms.{words_from_views}
-use Rattle.filter.proofs.Held.{is_sorted}
-use Rattle.filter.specs.Meaning.{held_in}
-use Rattle.filter.specs.Editing.{EntryPut}
-use Rattle.filter.proofs.Edited.{offsets_few, put_room, put_result}
+use Rattle.std.proofs.Common.{◌-◌, mod-eq_of_lt, sym, subst, arith}
+use Rattle.blocks.specs.Moves.{Within}
+use Rattle.blocks.specs.Writes.{WroteRemainder}
+use Rattle.filter.proofs.Writings.{MarkedBefore, entry_put, head_within, slot_within, marked_one, marked_none}
 use Rattle.filter.proofs.editing.put_entry.Goals as goal
+use Rattle.filter.proofs.editing.put_entry.Goals.{then-entry, else-entry}
 
-small : (r p : ℕ) → remainder r p < 2 ^ r
-unfolding remainder
-small r p = mod-lt p (pow_pos r)
-
-pub write_entry-requires : goal.write_entry-requires
-write_entry-requires c =
+pub returns-clause-put : goal.returns-clause-put
+returns-clause-put c =
     let r = c.args.width.bits in
-    let blocks = c.args.blocks in
-    let ws = c.args.words.now in
-    let p = c.args.fingerprint in
-    let m = many r (held_in r blocks ws) in
-    let q = c.quotient_of-c.ensures in
-    let rest = c.remainder_of-rem.ensures in
-    let S = c.start_of-start.result.0 in
-    let T = c.stop_of-stop.result.0 in
-    let P = c.seek-p.result.0 in
-    let starts = c.start_of-start.ensures ∙ ap (start m) q in
-    let stops = c.stop_of-stop.ensures ∙ ap (λ x. start m x + m x) q ∙ ap (λ x. x + m (quotient r p)) (sym starts) in
-    let below : (k : ℕ) → S ≤ k → k < P → remainder_in r ws k < remainder r p = λ k a b. omega (arith, rest, c.seek-p.ensures.below k a b) in
-    let here : P < T → remainder r p ≤ remainder_in r ws P = λ a. omega (arith, rest, c.seek-p.ensures.here a) in
-    let lo = c.seek-p.ensures.range.0 in
-    let hi = c.seek-p.ensures.range.1 in
-    let room = put_room r blocks ws c.requires.sound p S T P starts stops lo hi below here c.args.u.0 c.requires.free in
-    record {
-      sized = c.requires.sound.sized;
-      order = (omega (arith, q, starts), room, c.requires.below);
-      some = λ e. omega (arith, ltb-true S P (and_parts (ltb S P) (eqb P T) (sym c.both.ensures ∙ e)).0);
-      small = omega (arith, rest, small r p);
-      few = offsets_few r blocks ws c.requires.sound;
-    }
-
-pub returns : goal.returns
-returns c =
-    let r = c.args.width.bits in
-    let blocks = c.args.blocks in
-    let ws = c.args.words.now in
-    let p = c.args.fingerprint in
-    let m = many r (held_in r blocks ws) in
-    let q = c.quotient_of-c.ensures in
-    let rest = c.remainder_of-rem.ensures in
-    let S = c.start_of-start.result.0 in
-    let T = c.stop_of-stop.result.0 in
-    let P = c.seek-p.result.0 in
-    let starts = c.start_of-start.ensures ∙ ap (start m) q in
-    let stops = c.stop_of-stop.ensures ∙ ap (λ x. start m x + m x) q ∙ ap (λ x. x + m (quotient r p)) (sym starts) in
-    let below : (k : ℕ) → S ≤ k → k < P → remainder_in r ws k < remainder r p = λ k a b. omega (arith, rest, c.seek-p.ensures.below k a b) in
-    let here : P < T → remainder r p ≤ remainder_in r ws P = λ a. omega (arith, rest, c.seek-p.ensures.here a) in
-    let lo = c.seek-p.ensures.range.0 in
-    let hi = c.seek-p.ensures.range.1 in
-    let vs = c.write_entry.new.words in
-    let put1 = subst (λ x. EntryPut r ws vs x P c.args.u.0 c.remainder_of-rem.result (eqb P T) c.both.result) q c.write_entry.ensures in
-    let put2 = subst (λ x. EntryPut r ws vs (quotient r p) P c.args.u.0 x (eqb P T) c.both.result) rest put1 in
-    let put3 = subst (λ x. EntryPut r ws vs (quotient r p) P c.args.u.0 (remainder r p) (eqb P T) x) c.both.ensures put2 in
-    let shows = put_result r blocks ws c.requires.sound p S T P starts stops lo hi below here c.args.u.0 c.requires.free vs put3 in
-    let all : Words vs = λ k. search rules in
-    let order = is_sorted (insert p (held_in r blocks ws)) (sorted_insert p (held_in r blocks ws) c.requires.sound.rising) in
-    words_from_views r (insert p (held_in r blocks ws)) (omega arith) vs all (subst (Shows r vs) (sym order) shows) blocks (omega (arith, c.requires.sound.sized))
+    let e = c.args.entry in
+    let q = e.quotient.0 in
+    let p = e.at.0 in
+    let u = e.free.0 in
+    let w1 = c.move_up.new.words in
+    let w2 = c.set_remainder.new.words in
+    let w3 = c.set_runend.new.words in
+    let w4 = c.if-entry.words in
+    let w5 = c.set_occupied.new.words in
+    let h1 : Within r w1 u = omega arith in
+    let h2 : Within r w2 u = omega arith in
+    let h3 : Within r w3 u = omega arith in
+    let h4 : Within r w4 u = omega arith in
+    let h5 : Within r w5 u = omega arith in
+    let mark : MarkedBefore r w3 w4 p e.follows 0 =
+    elim c.if-entry.branch [
+      | then-entry w ↦ subst (λ x. MarkedBefore r w3 x p e.follows 0) (sym w.words-is)
+          (marked_one r w3 w.set_runend-then-entry.new.words p 0 e.follows (e.some w.if-entry.true) w.if-entry.true
+          (w.set_runend-then-entry.ensures.inside (head_within r w3 (p - 1) u 1 (omega arith) (omega arith) h3)))
+      | else-entry w ↦ subst (λ x. MarkedBefore r w3 x p e.follows 0) (sym w.words-is) (marked_none r w3 p 0 e.follows w.if-entry.false)
+    ] in
+    entry_put r c.args.words.now w1 w2 w3 w4 w5 c.raise_offsets.new.words q p u e.remainder e.ends e.follows e.order.1 c.requires.few
+    (c.move_up.ensures.inside e.order.1 c.requires.room)
+    (subst (WroteRemainder r w1 w2 p) (mod-eq_of_lt c.requires.small) (c.set_remainder.ensures.inside (slot_within r w1 p u e.order.1 h1)))
+    (c.set_runend.ensures.inside (head_within r w2 p u 1 e.order.1 (omega arith) h2))
+    mark
+    (c.set_occupied.ensures.inside (head_within r w4 q u 0 (omega arith) (omega arith) h4))
+    (c.raise_offsets.ensures.inside h5)

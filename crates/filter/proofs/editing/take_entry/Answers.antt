@@ -1,60 +1,39 @@
-use Rattle.std.proofs.Common.{◌+◌, ◌-◌, eqb, ltb, sym, ◌∙◌, subst, arith, rules}
-use Rattle.std.proofs.lemmas.Bool.{and_parts, ltb-true}
-use Rattle.layout.specs.Rule.{quotient, many, remove}
-use Rattle.layout.specs.Load.{FirstIdle}
-use Rattle.words.proofs.Rows.{Words}
-use Rattle.layout.proofs.Inserts.{sorted_remove}
-use Rattle.blocks.specs.Views.{Shows}
-use Rattle.blocks.proofs.Forms.{words_from_views}
-use Rattle.filter.proofs.Held.{is_sorted}
-use Rattle.filter.specs.Meaning.{held_in}
-use Rattle.filter.specs.Editing.{EntryGone}
-use Rattle.filter.proofs.Edited.{run_below, gone_room, gone_waits, gone_result}
+use Rattle.std.proofs.Common.{◌-◌, ◌^◌, sym, subst, arith}
+use native.Mathlib.Nat.{zero-mod}
+use Rattle.blocks.specs.Moves.{Within}
+use Rattle.blocks.specs.Writes.{WroteRemainder}
+use Rattle.filter.proofs.Writings.{MarkedBefore, entry_gone, head_within, slot_within, marked_one, marked_none}
 use Rattle.filter.proofs.editing.take_entry.Goals as goal
+use Rattle.filter.proofs.editing.take_entry.Goals.{then-entry, else-entry}
 
-pub first_idle-t-requires : goal.first_idle-t-requires
-first_idle-t-requires c =
-    record {
-      sound = c.requires.sound;
-      below = omega (arith, c.quotient_of-c.ensures, run_below c.args.width.bits c.args.blocks c.args.words.now c.requires.sound (quotient c.args.width.bits c.args.fingerprint) (omega arith));
-    }
-
-pub write_gap-requires : goal.write_gap-requires
-write_gap-requires c =
+pub returns-clause-gone : goal.returns-clause-gone
+returns-clause-gone c =
     let r = c.args.width.bits in
-    let blocks = c.args.blocks in
-    let ws = c.args.words.now in
-    let p = c.args.fingerprint in
-    let q = c.quotient_of-c.ensures in
-    let S = c.args.from.0 in
-    let T = c.args.to.0 in
-    let P = c.args.p.0 in
-    let t = c.first_idle-t.result.0 in
-    let idle = subst (λ x. FirstIdle (many r (held_in r blocks ws)) x t) q c.first_idle-t.ensures.idle in
-    let room = gone_room r blocks ws c.requires.sound p S T P t c.requires.starts c.requires.stops c.requires.within.0 c.requires.within.1 c.requires.found idle in
-    record {
-      sized = c.requires.sound.sized;
-      order = (omega (arith, q, c.requires.starts), room, omega (arith, idle.from, c.first_idle-t.ensures.bound));
-      some = λ e. omega (arith, ltb-true S P (and_parts (ltb S P) (eqb (P + 1) T) (sym c.both.ensures ∙ e)).0);
-      waits = λ b l g. gone_waits r blocks ws c.requires.sound p S T P t c.requires.starts c.requires.stops c.requires.within.0 c.requires.within.1 c.requires.found idle b (omega (arith, q)) g;
-    }
-
-pub returns : goal.returns
-returns c =
-    let r = c.args.width.bits in
-    let blocks = c.args.blocks in
-    let ws = c.args.words.now in
-    let p = c.args.fingerprint in
-    let q = c.quotient_of-c.ensures in
-    let S = c.args.from.0 in
-    let T = c.args.to.0 in
-    let P = c.args.p.0 in
-    let t = c.first_idle-t.result.0 in
-    let idle = subst (λ x. FirstIdle (many r (held_in r blocks ws)) x t) q c.first_idle-t.ensures.idle in
-    let vs = c.write_gap.new.words in
-    let g1 = subst (λ x. EntryGone r ws vs x P (t - 1) c.both.result (eqb (S + 1) T)) q c.write_gap.ensures in
-    let g2 = subst (λ x. EntryGone r ws vs (quotient r p) P (t - 1) x (eqb (S + 1) T)) c.both.ensures g1 in
-    let shows = gone_result r blocks ws c.requires.sound p S T P t c.requires.starts c.requires.stops c.requires.within.0 c.requires.within.1 c.requires.found idle vs g2 in
-    let all : Words vs = λ k. search rules in
-    let order = is_sorted (remove p (held_in r blocks ws)) (sorted_remove p (held_in r blocks ws) c.requires.sound.rising) in
-    words_from_views r (remove p (held_in r blocks ws)) (omega arith) vs all (subst (Shows r vs) (sym order) shows) blocks (omega (arith, c.requires.sound.sized))
+    let e = c.args.entry in
+    let q = e.quotient.0 in
+    let p = e.at.0 in
+    let u = e.gap.0 in
+    let w1 = c.move_down.new.words in
+    let w2 = c.set_remainder.new.words in
+    let w3 = c.set_runend.new.words in
+    let w4 = c.if-entry.words in
+    let w5 = c.set_occupied.new.words in
+    let h1 : Within r w1 u = omega arith in
+    let h2 : Within r w2 u = omega arith in
+    let h3 : Within r w3 u = omega arith in
+    let h4 : Within r w4 u = omega arith in
+    let h5 : Within r w5 u = omega arith in
+    let mark : MarkedBefore r w3 w4 p e.follows 1 =
+    elim c.if-entry.branch [
+      | then-entry w ↦ subst (λ x. MarkedBefore r w3 x p e.follows 1) (sym w.words-is)
+          (marked_one r w3 w.set_runend-then-entry.new.words p 1 e.follows (e.some w.if-entry.true) w.if-entry.true
+          (w.set_runend-then-entry.ensures.inside (head_within r w3 (p - 1) u 1 (omega arith) (omega arith) h3)))
+      | else-entry w ↦ subst (λ x. MarkedBefore r w3 x p e.follows 1) (sym w.words-is) (marked_none r w3 p 1 e.follows w.if-entry.false)
+    ] in
+    entry_gone r c.args.words.now w1 w2 w3 w4 w5 c.lower_offsets.new.words q p u 0 e.follows e.only e.order.1 c.requires.waits
+    (c.move_down.ensures.inside e.order.1 c.requires.room)
+    (subst (WroteRemainder r w1 w2 u) (zero-mod (2 ^ r)) (c.set_remainder.ensures.inside (slot_within r w1 u u (omega arith) h1)))
+    (c.set_runend.ensures.inside (head_within r w2 u u 1 (omega arith) (omega arith) h2))
+    mark
+    (c.set_occupied.ensures.inside (head_within r w4 q u 0 (omega arith) (omega arith) h4))
+    (c.lower_offsets.ensures.inside h5)

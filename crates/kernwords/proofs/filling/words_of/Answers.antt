@@ -1,4 +1,4 @@
-use Rattle.std.proofs.Common.{◌+◌, ◌*◌, ◌≤◌, min, ◌∙◌, ap₂, arith}
+use Rattle.std.proofs.Common.{◌≤◌, min, ◌∙◌, arith}
 use Rattle.std.proofs.lemmas.List.{take_at}
 use Rattle.std.proofs.lemmas.Result.{err_from_is_err_and}
 use Rattle.std.specs.declared.alloc.Global.{Global}
@@ -10,7 +10,7 @@ returns-in_err-fill c =
     let plan = c.args.plan in
     let blocks = min c.args.blocks 16640 in
     let few : blocks ≤ 16640 = omega arith in
-    let size = c.as_mut_slice.ensures.len ∙ c.in_ok-words.ensures ∙ ap₂ (λ a b. a * (b + 3)) c.min.ensures c.r.ensures in
+    let size = c.as_mut_slice.ensures.len ∙ c.in_ok-words.ensures.size in
     let p = err_from_is_err_and c.from_residual-in_err-fill.result c.from_residual-in_err-fill.ensures.1 in
     rw (p.1, p.2) (refused_words plan blocks few c.as_mut_slice.result.now c.fill.new.words c.as_mut_slice-2.result.now c.args.pairs.now
     size (c.as_mut_slice-2.ensures.value ∙ c.in_ok-list.ensures) Global c.in_err-fill.field-0.0 c.in_err-fill.ensures)
@@ -20,7 +20,7 @@ returns c =
     let plan = c.args.plan in
     let blocks = min c.args.blocks 16640 in
     let few : blocks ≤ 16640 = omega arith in
-    let size = c.as_mut_slice.ensures.len ∙ c.in_ok-words.ensures ∙ ap₂ (λ a b. a * (b + 3)) c.min.ensures c.r.ensures in
+    let size = c.as_mut_slice.ensures.len ∙ c.in_ok-words.ensures.size in
     let all = filled_words plan blocks few c.as_mut_slice.result.now c.fill.new.words c.as_mut_slice-2.result.now c.args.pairs.now
     size (c.as_mut_slice-2.ensures.value ∙ c.in_ok-list.ensures) c.in_ok-fill.ensures in
     (all.0, take_at c.fill.new.words _ c.in_ok-words.words.len (omega (arith, c.as_mut_slice.ensures.len)) ∙ all.1)

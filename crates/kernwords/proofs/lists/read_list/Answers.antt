@@ -1,29 +1,19 @@
-use Rattle.std.proofs.Common.{refl, arith}
-use Rattle.figures.proofs.Cuts.{shorter}
-use Rattle.kernwords.proofs.Listings.{sofar_pair, sofar_bad, sofar_all}
+use Rattle.std.proofs.Common.{⊎_elim, arith}
+use Rattle.kernwords.proofs.Listings.{sofar_pair, sofar_bad, sofar_all, sofar_few}
 use Rattle.kernwords.proofs.lists.read_list.Goals as goal
 
-pub loop-line-smaller-in_ok-push-in-Some-pair_of : goal.loop-line-smaller-in_ok-push-in-Some-pair_of
-loop-line-smaller-in_ok-push-in-Some-pair_of c = shorter c.loop-line.left.now c.in-Some.line.now c.in-Some.rest.now c.in-Some.ensures
+pub loop-number-preserved-in-Continue-1 : goal.loop-number-preserved-in-Continue-1
+loop-number-preserved-in-Continue-1 c =
+    let x = c.in-Some.ensures.steps in
+    rw c.in_ok-push-in-Some-pair_of.ensures.items (sofar_pair c.args.text.now _ _ _ _ _ _ _ _ _ c.loop-number.invariant x.0.0 x.0.1 x.1 c.in-Some-pair_of.ensures)
 
-pub loop-line-preserved-in_ok-push-in-Some-pair_of : goal.loop-line-preserved-in_ok-push-in-Some-pair_of
-loop-line-preserved-in_ok-push-in-Some-pair_of c =
-    let less = shorter c.loop-line.left.now c.in-Some.line.now c.in-Some.rest.now c.in-Some.ensures in (
-      rw c.in_ok-push-in-Some-pair_of.ensures.items
-          (sofar_pair c.args.text.now c.loop-line.left.now c.in-Some.line.now c.in-Some.rest.now c.loop-line.number _ _ _ _ c.loop-line.invariant.0 c.in-Some.ensures refl c.in-Some-pair_of.ensures),
-      omega (arith, c.loop-line.invariant.1),
-    )
-
-pub loop-line-smaller : goal.loop-line-smaller
-loop-line-smaller c = shorter c.loop-line.left.now c.in-Some.line.now c.in-Some.rest.now c.in-Some.ensures
-
-pub loop-line-preserved : goal.loop-line-preserved
-loop-line-preserved c =
-    let less = shorter c.loop-line.left.now c.in-Some.line.now c.in-Some.rest.now c.in-Some.ensures in (
-      rw c.in_ok-push-in-None.ensures.items
-          (sofar_bad c.args.text.now c.loop-line.left.now c.in-Some.line.now c.in-Some.rest.now c.loop-line.number _ _ _ c.loop-line.invariant.0 c.in-Some.ensures refl c.in-None.ensures),
-      omega (arith, c.loop-line.invariant.1),
-    )
+pub loop-number-preserved : goal.loop-number-preserved
+loop-number-preserved c =
+    let x = c.in-Some.ensures.steps in
+    rw c.in_ok-push-in-None-pair_of.ensures.items (sofar_bad c.args.text.now _ _ _ _ _ _ _ _ c.loop-number.invariant x.0.0 x.0.1 x.1 c.in-None-pair_of.ensures)
 
 pub returns : goal.returns
-returns c = sofar_all c.args.text.now c.loop-line.left.now c.loop-line.number _ _ c.loop-line.invariant.0 c.in_default.ensures
+returns c =
+    let text = c.args.text.now in
+    let inv = c.loop-number.invariant in
+    ⊎_elim (λ (from, full). absurd (omega (arith, full.0, sofar_few text _ _ _ _ inv))) (λ (to, ends). sofar_all text _ _ _ _ inv ends.0) c.in-None.ensures.steps

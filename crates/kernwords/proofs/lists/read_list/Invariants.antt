@@ -1,9 +1,7 @@
-use Rattle.std.proofs.Common.{◌+◌, ◌≤◌, length, vec_items}
+use Rattle.std.specs.Iterator.Adapters.{zip_first, zip_second}
+use Rattle.figures.specs.Coming.{lines_left}
 use Rattle.kernwords.proofs.Listings.{Sofar}
 use Rattle.kernwords.proofs.lists.read_list.Given as goal
 
-abbrev pub invariant-loop-line : goal.invariant-loop-line
-invariant-loop-line l = Sofar l.text l.left l.number (vec_items l.pairs) (vec_items l.bad) × (l.number + length l.left ≤ length l.text)
-
-abbrev pub decreases-loop-line : goal.decreases-loop-line
-decreases-loop-line l = length l.left
+abbrev pub invariant-loop-number : goal.invariant-loop-number
+invariant-loop-number l = Sofar l.text (lines_left (zip_second l.number-iterator)) (zip_first l.number-iterator).start l.pairs.items l.bad.items

@@ -1,46 +1,27 @@
-use Rattle.std.proofs.Common.{◌≡◌, ◌*◌, ◌≤◌, [], ◌++◌, length, drop, sym, refl, ap, ◌∙◌, subst, arith}
-use Rattle.layout.specs.Rule.{sorted}
+use Rattle.std.proofs.Common.{◌≡◌, ◌≤◌, ◌++◌, length, drop, sym, refl, ap, ◌∙◌, subst, rules}
 use Rattle.layout.specs.Format.{block_count}
-use Rattle.layout.proofs.Bounds.{empty_law}
 use Rattle.filter.specs.Meaning.{size_of}
-use Rattle.filter.specs.Filters.{cleared_over}
-use Rattle.filter.proofs.Held.{size_room, zeros_are, entries_are, facts}
+use Rattle.filter.proofs.Held.{size_room}
+use Rattle.filter.proofs.Promises.{filled, none_facts, none_held}
 use Rattle.filter.proofs.filter.Filter.begin.Goals as goal
 
-pub clear_blocks-requires : goal.clear_blocks-requires
-clear_blocks-requires c =
-    let r = c.args.plan.r in
-    let n = length c.args.words.now in
-    let room = size_room r n in
-    record {
-      sized = subst (λ x. size_of x c.blocks_of-blocks.result ≤ n) (sym c.width.ensures) (subst (λ x. size_of r x ≤ n) (sym c.blocks_of-blocks.ensures) room);
-      few = omega arith;
-    }
-
 pub invariant_of-result : goal.invariant_of-result
-unfolding sorted
 invariant_of-result c =
     let r = c.args.plan.r in
     let b = c.blocks_of-blocks.result in
-    let old = c.args.words.now in
-    let words = c.clear_blocks.ensures ∙ ap (λ x. cleared_over x b old) c.width.ensures in
-    let is = words ∙ ap (λ x. x ++ drop (size_of r b) old) (zeros_are r b (omega arith) (omega arith)) in
-    let len : length old ≡ length c.clear_blocks.new.words = omega arith in
-    let all = facts c.args.plan.q r b 0 [] (drop (size_of r b) old) c.clear_blocks.new.words (omega arith) (c.blocks_of-blocks.ensures ∙ ap (block_count r) len) refl (empty_law (64 * b) r 0).0 (λ k l. absurd (omega arith)) refl is in
+    let ws = c.args.words.now in
+    let room = subst (λ n. size_of r n ≤ length ws) (sym c.blocks_of-blocks.ensures) (size_room r (length ws)) in
+    let is = filled c.size_of.result (size_of r b) ws c.fill.new.self c.size_of.ensures room (c.fill.ensures.after (λ y e. e)) in
+    let len : length ws ≡ length (c.fill.new.self ++ drop c.size_of.result ws) = search rules in
+    let all = none_facts c.args.plan b ws _ (c.blocks_of-blocks.ensures ∙ ap (block_count r) len) is in
     record { sized = all.sized; laid = all.laid; rising = all.rising; roomy = all.roomy; narrow = all.narrow; counted = all.counted }
 
 pub returns : goal.returns
-unfolding sorted
 returns c =
     let r = c.args.plan.r in
     let b = c.blocks_of-blocks.result in
-    let old = c.args.words.now in
-    let words = c.clear_blocks.ensures ∙ ap (λ x. cleared_over x b old) c.width.ensures in
-    let is = words ∙ ap (λ x. x ++ drop (size_of r b) old) (zeros_are r b (omega arith) (omega arith)) in
-    record {
-      plan = refl;
-      blocks = c.blocks_of-blocks.ensures;
-      empty = entries_are r b (omega arith) (omega arith) [] (drop (size_of r b) old) c.clear_blocks.new.words refl (empty_law (64 * b) r 0).0 is;
-      words = words;
-      name = refl;
-    }
+    let ws = c.args.words.now in
+    let room = subst (λ n. size_of r n ≤ length ws) (sym c.blocks_of-blocks.ensures) (size_room r (length ws)) in
+    let is = filled c.size_of.result (size_of r b) ws c.fill.new.self c.size_of.ensures room (c.fill.ensures.after (λ y e. e)) in
+    let len : length ws ≡ length (c.fill.new.self ++ drop c.size_of.result ws) = search rules in
+    record { plan = refl; blocks = c.blocks_of-blocks.ensures; empty = none_held c.args.plan b ws _ (c.blocks_of-blocks.ensures ∙ ap (block_count r) len) is; words = is; name = refl }

@@ -4,7 +4,6 @@ use Rattle.filter.specs.Meaning.{size_of, held_in}
 use Rattle.filter.specs.Filters.{words_of, fingerprints, WordsOfList}
 use Rattle.filter.specs.declared.filter.Filter.{Filter}
 use Rattle.filter.specs.declared.plan.Plan.{Plan}
-use Rattle.filter.proofs.Promises.{room_of}
 use Rattle.filter.proofs.filter.Filter.words.Goals as goal
 
 alone : (f : Filter) (ws : List ℕ) → ws ≡ take (size_of f.plan.r f.blocks) (words_of f) → WordsOfList f ws
@@ -14,8 +13,8 @@ alone f ws is g ep eb =
       (λ same. ap₂ (λ x b. held_in x b (take (size_of g.plan.r g.blocks) (words_of g))) r eb ∙ ap (held_in f.plan.r f.blocks) (same ∙ is)),
     )
 
-pub blocks_in-requires : goal.blocks_in-requires
-blocks_in-requires c = record { room = room_of c.args.self.now }
-
 pub returns : goal.returns
-returns c = record { alone = alone c.args.self.now _ c.blocks_in.ensures; layout = c.blocks_in.ensures ∙ c.args.self.now.laid }
+returns c =
+    let f = c.args.self.now in
+    let is = ap (λ n. take n (words_of f)) c.size_of.ensures in
+    record { alone = alone f _ is; layout = is ∙ f.laid }

@@ -1,7 +1,0 @@
-use Rattle.std.proofs.Common.{◌≡◌, ◌≤◌, ◌⊎◌}
-use Rattle.blocks.specs.Moves.{ChangedOffsets, lowered}
-use Rattle.blocks.proofs.moves.lower_each.Given as goal
-
--- the offsets of the blocks below `b` have been changed
-abbrev pub invariant-loop-b : goal.invariant-loop-b
-invariant-loop-b l = ChangedOffsets lowered l.width.bits l.initial.words l.words l.initial.b l.b × ((l.b ≤ l.to) ⊎ (l.b ≡ l.initial.b))

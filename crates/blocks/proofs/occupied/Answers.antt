@@ -1,7 +1,0 @@
-use Rattle.std.proofs.Common.{rules}
-use Rattle.blocks.specs.Views.{occupied_bit_in}
-use Rattle.blocks.proofs.occupied.Goals as goal
-
-pub returns : goal.returns
-unfolding occupied_bit_in
-returns c = search rules

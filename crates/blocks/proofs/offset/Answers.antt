@@ -1,7 +1,0 @@
-use Rattle.std.proofs.Common.{rules}
-use Rattle.blocks.specs.Views.{offset_in}
-use Rattle.blocks.proofs.offset.Goals as goal
-
-pub returns : goal.returns
-unfolding offset_in
-returns c = search rules

@@ -1,7 +1,0 @@
-use Rattle.std.proofs.Common.{rules}
-use Rattle.blocks.specs.Views.{remainder_in}
-use Rattle.blocks.proofs.remainder.Goals as goal
-
-pub returns : goal.returns
-unfolding remainder_in
-returns c = search rules

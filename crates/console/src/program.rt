@@ -1,0 +1,118 @@
+//! How a program runs and ends.
+ghost use Rattle.std.specs.Prelude.{◌≡◌, ◌⊎◌, MatchResult, OnOk, Some};
+ghost use Rattle.std.specs.Io.KnownBytes.{Appends};
+ghost use Rattle.console.specs.Texts.{refused_text, stop_text};
+ghost use Rattle.console.specs.Endings.{last_text, Ended, Performed};
+
+use crate::fault::Fault;
+use crate::request::Request;
+use filter::FilterFault;
+use std::io::{BufWriter, Stdout, Write};
+use std::process::ExitCode;
+use std::{env, fmt};
+
+/// The line that shows a refusal: its number.
+#[derive(Clone, Copy, PartialEq, Eq, Debug)]
+pub struct Refused(pub FilterFault);
+
+impl fmt::Display for Refused {
+    ghost output = { λ r. Some (refused_text r.0) };
+
+    fn fmt<W: fmt::Write>(&self, f: &mut fmt::Formatter<W>) -> fmt::Result {
+        let number = self.0.number();
+        write!(f, "refused {number}")
+    }
+}
+
+/// A program that prints what a request of three numbers and standard input ask for.
+#[derive(Clone, Copy)]
+pub struct Program {
+    /// Its name.
+    pub name: &'static str,
+    /// The arguments that it takes, as its usage shows them.
+    pub arguments: &'static str,
+    /// The request that it takes no arguments for.
+    pub usual: Option<Request>,
+}
+
+/// Why a program stops, as it says on standard error.
+#[derive(Drop)]
+struct Stop<'a> {
+    program: &'a Program,
+    fault: &'a Fault,
+}
+
+impl fmt::Display for Stop<'_> {
+    ghost output = { λ s. Some (stop_text s.program.now s.fault.now) };
+
+    fn fmt<W: fmt::Write>(&self, f: &mut fmt::Formatter<W>) -> fmt::Result {
+        let name = self.program.name;
+        let arguments = self.program.arguments;
+        match self.fault {
+            Fault::Arguments => write!(f, "usage: {name} {arguments}"),
+            Fault::Memory => write!(f, "{name}: out of memory"),
+            Fault::Stream => write!(f, "{name}: standard input or output fails"),
+            Fault::Filter(_) => write!(f, "{name}: refused"),
+        }
+    }
+}
+
+/// Ends what a program prints: a refusal is its last line.
+fn conclude<W: Write>(out: &mut W, done: Result<(), Fault>) -> Result<(), Fault>
+    ensures printed { OnOk result (Appends (W.contents out.old) (W.contents out.new) (last_text done)) }
+    ensures ended { OnOk result (Ended done) }
+{
+    match done {
+        Ok(()) => {}
+        Err(Fault::Filter(fault)) => writeln!(out, "{}", Refused(fault))?,
+        Err(fault) => return Err(fault),
+    }
+    out.flush()?;
+    Ok(())
+}
+
+impl Program {
+    /// Prints what the arguments ask for.
+    fn perform<F: FnOnce(&HostRuntime, &mut BufWriter<Stdout>, Request) -> Result<(), Fault>>(
+        &self,
+        rt: &HostRuntime,
+        print: F,
+    ) -> Result<(), Fault>
+        requires { F.IsAlwaysCallable print }
+        ensures { OnOk result (Performed self.now.usual (F.post print rt.entry)) }
+    {
+        let words: Vec<String> = env::args(rt)?.skip(1).collect(rt.alloc())?;
+        let request = Request::of(words.as_slice(), self.usual)?;
+        let mut out = BufWriter::new(rt.alloc(), rt.stdout())?;
+        let done = print(rt, &mut out, request);
+        conclude(&mut out, done)
+    }
+
+    /// The status that the program ends with. Where it stops, it says why on standard error.
+    fn status(&self, rt: &HostRuntime, done: Result<(), Fault>) -> ExitCode
+        ensures { MatchResult done (λ _. result ≡ ExitCode.SUCCESS) (λ _. result ≡ ExitCode.FAILURE) }
+    {
+        match done {
+            Ok(()) => ExitCode::SUCCESS,
+            Err(fault) => {
+                let _ = rt.eprintln(Stop {
+                    program: self,
+                    fault: &fault,
+                });
+                ExitCode::FAILURE
+            }
+        }
+    }
+
+    /// Runs the program: prints what the arguments ask for, and says on standard error why where it stops.
+    pub fn run<F: FnOnce(&HostRuntime, &mut BufWriter<Stdout>, Request) -> Result<(), Fault>>(
+        &self,
+        rt: &HostRuntime,
+        print: F,
+    ) -> ExitCode
+        requires { F.IsAlwaysCallable print }
+        ensures { ((result ≡ ExitCode.SUCCESS) × Performed self.now.usual (F.post print rt.entry)) ⊎ (result ≡ ExitCode.FAILURE) }
+    {
+        self.status(rt, self.perform(rt, print))
+    }
+}

@@ -1,0 +1,71 @@
+//! Finds the entries of a fingerprint.
+ghost use Rattle.std.specs.Prelude.{◌≡◌, ℕ, ◌+◌, ◌*◌, ◌^◌, ◌<◌, ◌≤◌, MatchOption, ◌≢◌};
+ghost use Rattle.layout.specs.Rule.{quotient};
+ghost use Rattle.layout.specs.Laws.{count};
+ghost use Rattle.layout.specs.Load.{start};
+ghost use Rattle.filter.specs.Locating.{Placed};
+ghost use Rattle.filter.specs.Slots.{InRun};
+ghost use Rattle.filter.specs.Layouts.{bits_of, entries, many_of, remainders_of};
+
+use crate::cuts::{quotient_of, remainder_of};
+use crate::laid::Layout;
+use blocks::{Quotient, Slot};
+
+/// Where an entry of a fingerprint lies: in slot `at`, in the run of its quotient from slot `from` up to slot `to`.
+#[derive(Clone, Copy)]
+pub(crate) struct Place {
+    pub(crate) quotient: Quotient,
+    pub(crate) from: Slot,
+    pub(crate) to: Slot,
+    pub(crate) at: Slot,
+}
+
+impl Layout<'_> {
+    /// The first slot from `from` up to `to` whose remainder is `rem` or more, or `to` where there is none.
+    pub(crate) fn seek(&self, from: Slot, to: Slot, rem: u32) -> Slot
+        requires { from.0 ≤ to.0 }
+        ensures range { (from.0 ≤ result.0) × (result.0 ≤ to.0) }
+        ensures below { (k : ℕ) → from.0 ≤ k → k < result.0 → remainders_of self.now k < rem }
+        ensures here { result.0 < to.0 → rem ≤ remainders_of self.now result.0 }
+    {
+        (from.0..to.0)
+            .find(|s| self.blocks.remainder(Slot(*s)) >= rem)
+            .map_or(to, Slot)
+    }
+
+    /// The first entry with that remainder in the run of quotient `c`, if there is one.
+    fn in_run(&self, c: Quotient, rem: u32) -> Option<Place>
+        ensures { MatchOption result
+            ((k : ℕ) → k < many_of self.now c.0 → remainders_of self.now (start (many_of self.now) c.0 + k) ≢ rem)
+            (λ x. (x.quotient.0 ≡ c.0) × (x.from.0 ≡ start (many_of self.now) c.0) × (x.to.0 ≡ x.from.0 + many_of self.now c.0)
+            × InRun (many_of self.now) c.0 x.at.0 × (remainders_of self.now x.at.0 ≡ rem)) }
+    {
+        let from = self.start_of(c);
+        let to = self.stop_of(c);
+        let at = self.seek(from, to, rem);
+        if at.0 < to.0 && self.blocks.remainder(at) == rem {
+            Some(Place {
+                quotient: c,
+                from,
+                to,
+                at,
+            })
+        } else {
+            None
+        }
+    }
+
+    /// Where an entry of a fingerprint lies, if there is one.
+    pub(crate) fn find(&self, fingerprint: u64) -> Option<Place>
+        requires { quotient (bits_of self.now) fingerprint < 2 ^ 32 }
+        ensures { MatchOption result
+            (count fingerprint (entries self.now) ≡ 0)
+            (λ x. Placed (bits_of self.now) (entries self.now) fingerprint x.quotient.0 x.from.0 x.to.0 x.at.0) }
+    {
+        let c = quotient_of(self.blocks.width, fingerprint);
+        if !self.blocks.occupied(c) {
+            return None;
+        }
+        self.in_run(c, remainder_of(self.blocks.width, fingerprint))
+    }
+}

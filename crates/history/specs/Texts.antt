@@ -1,0 +1,34 @@
+-- What is written of what a book did.
+use Rattle.std.specs.Prelude.{ℕ, List, ◌++◌, Some, None, Option, codes, option_map}
+use Rattle.history.specs.declared.answer.Found.{Found}
+use Rattle.history.specs.declared.answer.Found.TheVariants as found
+use Rattle.history.specs.declared.answer.Stored.{Stored}
+use Rattle.history.specs.declared.answer.Stored.TheVariants.{Kept, Changed}
+use Rattle.history.specs.declared.answer.Told.{Told}
+use Rattle.history.specs.declared.answer.Told.TheVariants as told
+
+-- what a put did
+abbrev pub stored_text : Stored → List ℕ
+stored_text Kept = codes "kept"
+stored_text Changed = codes "changed"
+
+-- what a find gave, and the part that gave it, with a value as `shown` writes it, if that is stated
+abbrev pub found_text : {V : Type 0} → (V → Option (List ℕ)) → Found V → Option (List ℕ)
+found_text shown found.Filter = Some (codes "none filter")
+found_text shown (found.Table None) = Some (codes "none table")
+found_text shown (found.Table (Some v)) = option_map (λ text. text ++ codes " table") (shown v)
+
+-- what an operation did
+abbrev pub told_text : {V : Type 0} → (V → Option (List ℕ)) → Told V → Option (List ℕ)
+told_text shown (told.Stored s) = Some (stored_text s)
+told_text shown told.Dropped = Some (codes "dropped")
+told_text shown (told.Found f) = found_text shown f
+
+-- the same, with its values as `shown` writes them
+abbrev pub book_text : {V : Type 0} → (V → List ℕ) → Told V → List ℕ
+book_text shown (told.Stored Kept) = codes "kept"
+book_text shown (told.Stored Changed) = codes "changed"
+book_text shown told.Dropped = codes "dropped"
+book_text shown (told.Found found.Filter) = codes "none filter"
+book_text shown (told.Found (found.Table None)) = codes "none table"
+book_text shown (told.Found (found.Table (Some v))) = shown v ++ codes " table"
