@@ -102,6 +102,7 @@ impl From<BookFault> for Refusal {
 }
 
 /// A refusal with its line. A refusal of the whole sheet has line 0.
+// kept: that is the number under which it is answered.
 #[derive(Clone, Copy, PartialEq, Eq, Debug)]
 pub struct SheetFault {
     pub line: u32,

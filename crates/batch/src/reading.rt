@@ -41,6 +41,7 @@ impl Batch {
     fn note(&mut self, line: &[u8]) -> Result<(), AllocError>
         ensures { OnOk result (Noted line.now self.old.kerns.items self.old.ligatures.items self.old.lines.items self.new.kerns.items self.new.ligatures.items self.new.lines.items) }
     {
+        // kept: what is made of a command allocates, so a `map` has no place for its error
         let destination = match command_of(line) {
             Ok(command) => Ok(self.sort(command)?),
             Err(fault) => Err(fault),

@@ -63,6 +63,8 @@ fn change_each<F: Fn(u64) -> u64>(words: &mut [u64], width: Width, from: u32, to
     }
 }
 
+// kept: `from` and `to` are two slots in any order, since nothing happens where they are turned; a stretch that knew its order would ask more of callers.
+
 /// Moves the entries of the slots `from` to `to - 1` one slot up; slot `from` keeps its own.
 /// Nothing happens where `to` is below `from`, or where its block reaches past the words.
 pub fn move_up(words: &mut [u64], width: Width, from: Slot, to: Slot)

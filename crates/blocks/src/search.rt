@@ -19,7 +19,7 @@ fn one_from(w: u64, i: u32, k: u32) -> u32
     ensures { OneFrom w i k result }
 {
     let Some(p) = select(w, ones_below(w, i) + k) else {
-        unreachable()
+        unreachable!()
     };
     p
 }

@@ -1,5 +1,6 @@
 -- Opening a book: the fingerprints of the records at the first places.
 use Rattle.std.proofs.Common.{◌≡◌, ℕ, ◌+◌, ◌*◌, ◌<◌, ◌≤◌, List, [], ◌∷◌, ◌++◌, map, length, get_or, take, drop, Some, None, Ok, Option, sym, refl, ap, ◌∙◌, subst, arith, take_all}
+use Rattle.std.proofs.lemmas.List.{append-nil}
 use Rattle.layout.specs.Rule.{Roomy}
 use Rattle.layout.specs.Laws.{count}
 use Rattle.layout.proofs.Sorts.{count_here}
@@ -27,10 +28,6 @@ count_last p (q ∷ ps) x =
     let e = count_here p x ps in
     omega arith
 
-append_none : (ps : List ℕ) → ps ++ [] ≡ ps
-append_none [] = refl
-append_none (p ∷ ps) = ap (λ l. p ∷ l) (append_none ps)
-
 module _ {K V : Type 0} (number : K → ℕ) (f : Filter) (rows : List (Option (Record K V))) where
   abbrev mark : K → ℕ
   mark k = cut_to f.plan (number k)
@@ -49,7 +46,7 @@ module _ {K V : Type 0} (number : K → ℕ) (f : Filter) (rows : List (Option (
 
   pub filled_free : (g : Filter) (i : ℕ) → i < length rows → None ≡ get_or rows i None → Filled g i → Filled g (i + 1)
   filled_free g i l e d =
-      let same : front (i + 1) ≡ front i = numbers_free mark rows i l e ∙ append_none (front i) in
+      let same : front (i + 1) ≡ front i = numbers_free mark rows i l e ∙ append-nil (front i) in
       record { holds = subst (λ ps. Holds f g ps) (sym same) d.holds; room = subst (λ ps. Roomy (slots_of f) f.plan.r ps) (sym same) d.room }
 
   module _ (g : Filter) (i : ℕ) (r : Record K V) (l : i < length rows) (e : Some r ≡ get_or rows i None) (d : Filled g i) (p : ℕ) (is : p ≡ cut_to g.plan (number r.key)) where

@@ -4,7 +4,7 @@ use Rattle.filter.specs.Cuts.{cut_to}
 use Rattle.filter.specs.Filters.{Crowds, fingerprints, slots_of, Added}
 use Rattle.filter.specs.declared.plan.Plan.{Plan}
 use Rattle.filter.specs.declared.fault.FilterFault.{FilterFault}
-use Rattle.filter.specs.declared.fault.FilterFault.TheVariants.{BadPlan, WideFingerprint, NoSlot, NoSuchFingerprint}
+use Rattle.filter.specs.declared.fault.FilterFault.TheVariants.{WideFingerprint, NoSlot}
 use Rattle.filter.specs.declared.filter.Filter.{Filter}
 
 -- what is cut to a plan is a fingerprint under it
@@ -19,5 +19,4 @@ pub add_refused : (f g : Filter) (p n : ℕ) (e : FilterFault) → p ≡ cut_to 
     → (e ≡ NoSlot) × Crowds f.plan (slots_of f) (p ∷ fingerprints f) × (g ≡ f)
 add_refused f g p n NoSlot is a = (refl, a.1, a.3)
 add_refused f g p n WideFingerprint is a = let b = cut_below f.plan n in absurd (omega (arith, a.0))
-add_refused f g p n BadPlan is a = absurd a
-add_refused f g p n NoSuchFingerprint is a = absurd a
+add_refused f g p n e is a = absurd a

@@ -28,7 +28,7 @@ pub fn find<K: Kind, X: Table<K>, P: Fingerprint<K>>(
     ensures { FindRule (terms_of K.Kind.bytes (P.Fingerprint.number by.now) filter.now (X.Table.meaning table.now)) (held_by K.Kind.bytes filter.now (X.Table.meaning table.now)) key result }
 {
     let Ok(there) = filter.has(fingerprint_of::<K, P>(filter.plan(), by, key)) else {
-        unreachable()
+        unreachable!()
     };
     if there {
         Found::Table(table.look(key))

@@ -56,8 +56,7 @@ fn print_answers(
             }
             Ok(())
         }
-        Err(ReplayFault::NoMemory) => println!(rt; "no memory"),
-        Err(ReplayFault::Opening(fault)) => println!(rt; "opening fault {fault}"),
+        Err(fault) => println!(rt; "{fault}"),
     }
 }
 
@@ -115,8 +114,8 @@ fn run(rt: &HostRuntime, plan: Plan) -> io::Result<()> {
 }
 
 fn main(rt: HostRuntime) -> io::Result<()> {
-    match Plan::new(6, 8) {
-        Ok(plan) => run(&rt, plan),
-        Err(_) => Ok(()),
-    }
+    let Ok(plan) = Plan::new(6, 8) else {
+        unreachable!()
+    };
+    run(&rt, plan)
 }

@@ -6,8 +6,8 @@ use crate::fault::Fault;
 use figures::{FigureFault, whole};
 use filter::{FilterFault, Plan};
 
-// kept: 65,536 is no code: a plan refuses it as it does 65,535, and a filter takes 16,640 blocks for either.
 /// What the arguments ask for. A number above 65,536 counts as that, which is more than any plan or filter has.
+// kept: 65,536 is no code: a plan refuses it as it does 65,535, and a filter takes 16,640 blocks for either.
 #[derive(Clone, Copy, PartialEq, Eq, Debug)]
 pub struct Request {
     pub q: u32,

@@ -2,12 +2,9 @@
 ghost use Rattle.std.specs.Prelude.{◌≡◌, ◌+◌, ◌*◌, min, replicate, IfOk, vec_len, Some};
 ghost use Rattle.console.specs.Texts.{block_text, blocks_text};
 
-use filter::Plan;
+use filter::{MOST_BLOCKS, Plan};
 use std::alloc::{AllocError, Global};
 use std::fmt;
-
-/// The most blocks that a filter has.
-pub const MOST_BLOCKS: usize = 16640;
 
 /// How many words a block has.
 fn block_words(plan: Plan) -> usize

@@ -30,6 +30,7 @@ fn leading_digits(bytes: &[u8]) -> (&[u8], &[u8])
 }
 
 /// The figure that the bytes begin with, and what follows it. A number past 65,536 is given as 65,536.
+// kept: 65,536 is no code. It is above every limit here, and what is refused for it is refused for any larger number.
 pub fn figure(bytes: &[u8]) -> Result<(u32, &[u8]), FigureFault>
     ensures { MatchResult result (λ p. Read bytes.now p.0 p.1.now) (λ e. (e ≡ FigureFault.Unreadable) × NoFigure bytes.now) }
 {
@@ -55,7 +56,7 @@ pub fn natural(bytes: &[u8]) -> Option<u64>
 pub fn glyph_number(number: u32) -> Result<u16, FigureFault>
     ensures { MatchResult result (λ g. (g ≡ number) × (number ≤ 65535)) (λ e. (e ≡ FigureFault.TooLarge) × (65535 < number)) }
 {
-    // kept: a rule of the project, that a match with guards tells what is lawful from what is too large.
+    // kept: the guard shows the limit that the contract names; `try_from` would leave it to the types
     match number {
         n if n <= 65535 => Ok(n as u16),
         _ => Err(FigureFault::TooLarge),
@@ -84,7 +85,7 @@ pub fn whole(bytes: &[u8]) -> Result<u32, FigureFault>
 fn value_number(number: i64) -> Result<i16, FigureFault>
     ensures { MatchResult result (λ v. (v ≡ number) × Within number) (λ e. (e ≡ FigureFault.TooLarge) × (Within number → ⊥)) }
 {
-    // kept: the same rule.
+    // kept: as for a glyph number
     match number {
         n if (-32768..=32767).contains(&n) => Ok(n as i16),
         _ => Err(FigureFault::TooLarge),

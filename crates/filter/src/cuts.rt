@@ -3,9 +3,10 @@ ghost use Rattle.std.specs.Prelude.{◌≡◌, ◌+◌, ◌*◌, ◌^◌, ◌<�
 ghost use Rattle.layout.specs.Rule.{quotient, remainder};
 
 use blocks::Quotient;
-use words::Width;
+use words::{Width, low};
 
 /// The quotient of a fingerprint.
+// kept: that it fits is asked of each caller. A type of its own would be a fingerprint with its plan, carried through four private calls.
 pub(crate) fn quotient_of(width: Width, fingerprint: u64) -> Quotient
     requires { quotient width.bits fingerprint < 2 ^ 32 }
     ensures { result.0 ≡ quotient width.bits fingerprint }
@@ -17,7 +18,7 @@ pub(crate) fn quotient_of(width: Width, fingerprint: u64) -> Quotient
 pub(crate) fn remainder_of(width: Width, fingerprint: u64) -> u32
     ensures { result ≡ remainder width.bits fingerprint }
 {
-    (fingerprint & ((1 << width.bits) - 1)) as u32
+    low(fingerprint, width)
 }
 
 /// The fingerprint of a quotient and a remainder.

@@ -38,6 +38,7 @@ pub(crate) struct Departure {
 }
 
 /// Puts an entry where it comes.
+// kept: words and width apart, as in all that writes (crate blocks).
 pub(crate) fn put_entry(words: &mut [u64], width: Width, entry: Arrival)
     requires room { Within width.bits words.old entry.free.0 }
     requires small { entry.remainder < 2 ^ width.bits }

@@ -34,6 +34,7 @@ pub(crate) struct Rising<'a> {
     ghost room: { Roomy (64 * blocks) width.bits list.now },
 }
 
+// kept: the words that are written stay a parameter, as in crate blocks, and so their size is asked of each pass.
 impl Rising<'_> {
     /// Whether the `i`-th is the last of its quotient.
     fn ends_run(&self, i: usize) -> bool

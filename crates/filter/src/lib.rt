@@ -14,4 +14,4 @@ mod tests;
 pub use blocks::{Quotient, Slot};
 pub use fault::FilterFault;
 pub use filter::Filter;
-pub use plan::Plan;
+pub use plan::{MOST_BLOCKS, Plan};

@@ -6,7 +6,7 @@ use crate::fault::FilterFault;
 use words::Width;
 
 /// No filter has more blocks.
-const MOST_BLOCKS: usize = 16640;
+pub const MOST_BLOCKS: usize = 16640;
 
 /// How a fingerprint is cut: its quotient has q bits, 6 to 20, and its remainder r bits, 1 to 32.
 #[derive(Clone, Copy, PartialEq, Eq, Debug)]

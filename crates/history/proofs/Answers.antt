@@ -1,6 +1,6 @@
 -- The rules do not see in which order the entries stand.
 use Rattle.std.proofs.Common.{◌≡◌, Bool, true, false, ◌∷◌, is_some, Ok, Err, Result, sym, ap, ◌∙◌, arith}
-use Rattle.filter.specs.declared.fault.FilterFault.TheVariants.{BadPlan, WideFingerprint, NoSlot, NoSuchFingerprint}
+use Rattle.filter.specs.declared.fault.FilterFault.TheVariants.{NoSlot}
 use Rattle.tables.specs.declared.fault.TableFault.TheVariants.{ForeignGlyph, TableFull, NotHeld}
 use Rattle.history.specs.declared.operation.Operation.{Operation}
 use Rattle.history.specs.declared.operation.Operation.TheVariants.{Put, Drop, Find}
@@ -26,22 +26,13 @@ module _ {K V : Type 0} (t : Terms K) (h j : Holdings K V) (value : (k : K) → 
       (a, some k false s, omega arith, crowds_alike t.plan t.slots (t.fingerprint k ∷ h.entries) (t.fingerprint k ∷ j.entries) (alike_cons (t.fingerprint k) h.entries j.entries entries) c)
   put_same k (Ok stored.Kept) (a, s, l, c) =
       (a, some k false s, omega arith, roomy_alike t.slots t.plan.r (t.fingerprint k ∷ h.entries) (t.fingerprint k ∷ j.entries) (alike_cons (t.fingerprint k) h.entries j.entries entries) c)
-  put_same k (Err (Table NotHeld)) x = x
-  put_same k (Err (Filter BadPlan)) x = x
-  put_same k (Err (Filter WideFingerprint)) x = x
-  put_same k (Err (Filter NoSuchFingerprint)) x = x
-  put_same k (Err StrangeFilter) x = x
+  put_same k (Err e) x = x
 
   pub drop_same : (k : K) (r : Result (Unit {0}) BookFault) → DropRule t h k r → DropRule t j k r
   drop_same k (Err (Table NotHeld)) s = some k false s
   drop_same k (Err StrangeFilter) (s, c) = (some k true s, sym (entries (t.fingerprint k)) ∙ c)
   drop_same k (Ok done) (s, c) = (some k true s, omega (arith, entries (t.fingerprint k)))
-  drop_same k (Err (Table ForeignGlyph)) x = x
-  drop_same k (Err (Table TableFull)) x = x
-  drop_same k (Err (Filter BadPlan)) x = x
-  drop_same k (Err (Filter WideFingerprint)) x = x
-  drop_same k (Err (Filter NoSlot)) x = x
-  drop_same k (Err (Filter NoSuchFingerprint)) x = x
+  drop_same k (Err e) x = x
 
   pub find_same : (k : K) (f : Found V) → FindRule t h k f → FindRule t j k f
   find_same k found.Filter c = sym (entries (t.fingerprint k)) ∙ c

@@ -1,6 +1,6 @@
 -- The law over a history, and one event more.
 use Rattle.std.proofs.Common.{◌≡◌, ℕ, ◌+◌, ◌<◌, ◌⊎◌, List, [], ◌∷◌, ◌++◌, length, get_or, take, is_some, Some, None, Ok, Option, sym, refl, ap, ◌∙◌, subst, inl, inr, ⊎_elim, arith, length-append}
-use Rattle.std.proofs.lemmas.List.{take_more, length-take-le}
+use Rattle.std.proofs.lemmas.List.{append_assoc, take_more, length-take-le}
 use Rattle.layout.specs.Rule.{bit}
 use Rattle.history.specs.declared.operation.Operation.{Operation}
 use Rattle.history.specs.declared.operation.Operation.TheVariants.{Put, Drop, Find}
@@ -58,11 +58,8 @@ pub record Step {K V : Type 0} (e : Event K V) (f g : K → Option V) : Type 0 w
 
 module _ {K V : Type 0} (opening : K → Option V) where
   untouched_front : (h : History K V) (e : Event K V) (k : K) → Untouched (h ++ e ∷ []) k → Untouched h k
-  untouched_front h e k u before after x v q d = u before (after ++ e ∷ []) x v (ap (λ l. l ++ e ∷ []) q ∙ assoc before x after) d
-    where
-      assoc : (before : History K V) (x : Event K V) (after : History K V) → (before ++ x ∷ after) ++ e ∷ [] ≡ before ++ x ∷ (after ++ e ∷ [])
-      assoc [] x after = refl
-      assoc (b ∷ bs) x after = ap (λ l. b ∷ l) (assoc bs x after)
+  untouched_front h e k u before after x v q d =
+      u before (after ++ e ∷ []) x v (ap (λ l. l ++ e ∷ []) q ∙ append_assoc before (x ∷ after) (e ∷ [])) d
 
   untouched_last : (h : History K V) (e : Event K V) (k : K) → Untouched (h ++ e ∷ []) k → (v : Option V) → Decides e k v → ⊥
   untouched_last h e k u v d = u h [] e v refl d

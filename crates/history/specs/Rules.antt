@@ -4,7 +4,7 @@ use Rattle.layout.specs.Rule.{Roomy}
 use Rattle.layout.specs.Laws.{count}
 use Rattle.filter.specs.Filters.{Crowds}
 use Rattle.filter.specs.declared.plan.Plan.{Plan}
-use Rattle.filter.specs.declared.fault.FilterFault.TheVariants.{BadPlan, WideFingerprint, NoSlot, NoSuchFingerprint}
+use Rattle.filter.specs.declared.fault.FilterFault.TheVariants.{NoSlot}
 use Rattle.tables.specs.declared.fault.TableFault.TheVariants.{ForeignGlyph, TableFull, NotHeld}
 use Rattle.history.specs.declared.operation.Operation.{Operation}
 use Rattle.history.specs.declared.operation.Operation.TheVariants.{Put, Drop, Find}
@@ -33,7 +33,7 @@ pub record Holdings (K V : Type 0) : Type 0 where
   pub entries : List ℕ
 
 -- A put of key k: a key that the table does not admit is refused. A held key is changed. A new one is refused where the table is full, then where some
--- quotient is crowded with the newcomer counted; else it is kept.
+-- quotient is crowded with the newcomer counted; else it is kept. There is no other refusal.
 abbrev pub PutRule : {K V : Type 0} → Terms K → Holdings K V → K → Result Stored BookFault → Type 0
 PutRule t h k (Err (Table ForeignGlyph)) = t.admits k ≡ false
 PutRule t h k (Ok stored.Changed) = (t.admits k ≡ true) × (is_some (h.value k) ≡ true)
@@ -42,23 +42,14 @@ PutRule t h k (Err (Filter NoSlot)) =
     (t.admits k ≡ true) × (is_some (h.value k) ≡ false) × (h.held < t.capacity) × Crowds t.plan t.slots (t.fingerprint k ∷ h.entries)
 PutRule t h k (Ok stored.Kept) =
     (t.admits k ≡ true) × (is_some (h.value k) ≡ false) × (h.held < t.capacity) × Roomy t.slots t.plan.r (t.fingerprint k ∷ h.entries)
-PutRule t h k (Err (Table NotHeld)) = ⊥
-PutRule t h k (Err (Filter BadPlan)) = ⊥
-PutRule t h k (Err (Filter WideFingerprint)) = ⊥
-PutRule t h k (Err (Filter NoSuchFingerprint)) = ⊥
-PutRule t h k (Err StrangeFilter) = ⊥
+PutRule t h k (Err e) = ⊥
 
--- A drop of key k: refused where the key is not held, then where no entry has its fingerprint.
+-- A drop of key k: refused where the key is not held, then where no entry has its fingerprint. There is no other refusal.
 abbrev pub DropRule : {K V : Type 0} → Terms K → Holdings K V → K → Result (Unit {0}) BookFault → Type 0
 DropRule t h k (Err (Table NotHeld)) = is_some (h.value k) ≡ false
 DropRule t h k (Err StrangeFilter) = (is_some (h.value k) ≡ true) × (count (t.fingerprint k) h.entries ≡ 0)
 DropRule t h k (Ok done) = (is_some (h.value k) ≡ true) × (0 < count (t.fingerprint k) h.entries)
-DropRule t h k (Err (Table ForeignGlyph)) = ⊥
-DropRule t h k (Err (Table TableFull)) = ⊥
-DropRule t h k (Err (Filter BadPlan)) = ⊥
-DropRule t h k (Err (Filter WideFingerprint)) = ⊥
-DropRule t h k (Err (Filter NoSlot)) = ⊥
-DropRule t h k (Err (Filter NoSuchFingerprint)) = ⊥
+DropRule t h k (Err e) = ⊥
 
 -- A find of key k ends at the filter where no entry has its fingerprint; else it gives the value in the table.
 abbrev pub FindRule : {K V : Type 0} → Terms K → Holdings K V → K → Found V → Type 0

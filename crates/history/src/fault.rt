@@ -3,6 +3,7 @@ ghost use Rattle.history.specs.Faults.{number_of};
 ghost use Rattle.history.specs.declared.fault.BookFault.TheVariants.{Filter, Table};
 
 use filter::FilterFault;
+use std::error::Error;
 use std::fmt;
 use tables::TableFault;
 
@@ -40,6 +41,8 @@ impl fmt::Display for BookFault {
         write!(f, "{number}")
     }
 }
+
+impl Error for BookFault {}
 
 impl From<FilterFault> for BookFault {
     ghost from_gives = { λ f r. r ≡ Filter f };

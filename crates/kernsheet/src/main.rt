@@ -51,20 +51,13 @@ fn plan_of(q: u32, r: u32) -> Plan
     ensures { (result.q ≡ q) × (result.r ≡ r) }
 {
     let Ok(plan) = Plan::new(q, r) else {
-        unreachable()
+        unreachable!()
     };
     plan
 }
 
-/// A sequence to fill free records with.
-fn blank() -> Sequence {
-    let Ok(sequence) = Sequence::new(&[0, 0]) else {
-        unreachable()
-    };
-    sequence
-}
-
 /// Does the lines in turn, and writes their answers.
+// kept: an answer is written into a buffer of the caller's, and nothing is allocated for it.
 fn answer_lines<W: Write>(
     out: &mut W,
     kerns: &mut Book<'_, '_, '_, '_, ListTable<'_, Kern>, Fibonacci>,
@@ -74,7 +67,7 @@ fn answer_lines<W: Write>(
     for (line, number) in lines.zip(1..) {
         let mut answer = [0u8; 32];
         let Ok(bytes) = do_line(kerns, ligatures, &mut answer, number, line) else {
-            unreachable()
+            unreachable!()
         };
         out.write_all(&answer[..bytes])?;
     }
@@ -82,10 +75,11 @@ fn answer_lines<W: Write>(
 }
 
 /// Writes the answer to a sheet that is refused as a whole.
+// kept: its buffer too is the caller's.
 fn answer_fault<W: Write>(out: &mut W, fault: SheetFault) -> io::Result<()> {
     let mut answer = [0u8; 32];
     let Ok(bytes) = write_fault(&mut answer, fault) else {
-        unreachable()
+        unreachable!()
     };
     out.write_all(&answer[..bytes])
 }
@@ -103,7 +97,7 @@ fn answer_sheet<W: Write>(out: &mut W, sheet: &[u8]) -> io::Result<()> {
     }; 256];
     let mut ligature_words = [0u64; 38];
     let mut ligature_records = [Record {
-        key: blank(),
+        key: Sequence::Two(0, 0),
         value: 0u16,
     }; 64];
     let mut kerns = Shelf::<Kern>::over(plan_of(8, 24), &mut kern_words, &mut kern_records);

@@ -1,7 +1,7 @@
 ghost use Rattle.std.specs.Prelude.{◌≡◌, ◌≤◌, length};
 
 /// A key's bytes: the first `len` of eight.
-// kept: no heap, and a key's bytes are made anew at each call of a book. The library's `ArrayVec` is no plainer: it is not
+// kept: a key's bytes are made anew at each call of a book, and nothing is allocated for them. The library's `ArrayVec` is no plainer: it is not
 // `Copy`, and it is filled by pushes after eight blanks. An enum by length would take fewer lengths than a kind may have.
 #[derive(Clone, Copy)]
 pub struct KeyBytes {

@@ -10,6 +10,7 @@ pub(crate) mod calls;
 
 /// A table over lent records: the first `held` of them are its records, in no particular order, and those after them are free.
 /// It admits every key. It has a place for each record lent, but for at most the first 65,536; later ones it never touches.
+// kept: the records are lent memory, and a table allocates nothing.
 #[derive(Drop)]
 pub struct ListTable<'a, K: Kind> {
     held: usize,

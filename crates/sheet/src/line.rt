@@ -10,6 +10,8 @@ use kinds::{Fingerprint, Kern, Ligature};
 use replay::perform;
 use tables::Table;
 
+// kept: the two books stay two parameters, since they are of two kinds; a struct of both would have eight lifetimes and four types.
+
 // Does a line, and tells what it did or why it is refused.
 fn answer<X: Table<Kern>, P: Fingerprint<Kern>, Y: Table<Ligature>, Q: Fingerprint<Ligature>>(
     kerns: &mut Book<'_, '_, '_, '_, X, P>,
@@ -73,7 +75,7 @@ pub fn do_line<X: Table<Kern>, P: Fingerprint<Kern>, Y: Table<Ligature>, Q: Fing
         ),
     };
     let Ok(bytes) = written else {
-        unreachable() // the buffer is long enough
+        unreachable!() // the buffer is long enough
     };
     Ok(bytes)
 }

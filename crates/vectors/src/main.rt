@@ -37,14 +37,12 @@ fn try_texts(rt: &HostRuntime) -> io::Result<()> {
 
 /// Prints the fingerprint of the sequence whose bytes spell "foobar".
 fn try_sequence(rt: &HostRuntime) -> io::Result<()> {
-    match Sequence::new(&[0x666f, 0x6f62, 0x6172]) {
-        Ok(sequence) => {
-            let found = Fingerprint::<Ligature>::fingerprint(&Fnv1a, &sequence);
-            let said = verdict(found, 0x85944171f73967e8);
-            println!(rt; "sequence 26223 28514 24946 {found:016x} {said}")
-        }
-        Err(_) => println!(rt; "sequence 26223 28514 24946 refused"),
-    }
+    let Ok(sequence) = Sequence::new(&[0x666f, 0x6f62, 0x6172]) else {
+        unreachable!()
+    };
+    let found = Fingerprint::<Ligature>::fingerprint(&Fnv1a, &sequence);
+    let said = verdict(found, 0x85944171f73967e8);
+    println!(rt; "sequence 26223 28514 24946 {found:016x} {said}")
 }
 
 /// Tries the texts, then the sequence.

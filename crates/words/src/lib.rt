@@ -115,7 +115,7 @@ fn window(words: &[u64], place: usize) -> u64
 }
 
 /// The low bits of `n`, as many as a field of that width has.
-fn low(n: u64, width: Width) -> u32
+pub fn low(n: u64, width: Width) -> u32
     ensures { result ≡ n % 2 ^ width.bits }
 {
     (n & ((1 << width.bits) - 1)) as u32

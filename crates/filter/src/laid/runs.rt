@@ -58,7 +58,7 @@ impl Layout<'_> {
             ((x : ℕ) → c.0 ≤ x → x < slots_in self.now → 0 < load (many_of self.now) x + many_of self.now x)
             (λ u. FirstFree (many_of self.now) c.0 u.0 × (u.0 < slots_in self.now)) }
     {
-        // kept: `x` jumps to where the run before it stops, so no range counts it
+        // kept: `x` jumps to where the run before it stops, so no range counts it, and `successors` would ask for each stop twice
         let mut x = c.0;
         while x < 64 * self.count {
             let stop = self.stop_of(Quotient(x));
@@ -76,7 +76,7 @@ impl Layout<'_> {
         ensures idle { FirstIdle (many_of self.now) c.0 result.0 }
         ensures bound { result.0 ≤ slots_in self.now }
     {
-        // kept: `x` jumps to where its run starts, so no range counts it
+        // kept: `x` jumps to where its run starts, so no range counts it, and `successors` would ask for each start twice
         let mut x = c.0 + 1;
         while x < 64 * self.count {
             let start = self.start_of(Quotient(x));

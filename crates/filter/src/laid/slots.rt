@@ -45,7 +45,7 @@ impl Layout<'_> {
         Some((c, self.blocks.remainder(s)))
     }
 
-    /// All entries in rising order, of which there are `held` or so.
+    /// All entries in rising order. Memory for `held` of them is reserved first.
     pub(crate) fn entries(&self, heap: Global, held: u32) -> Result<Vec<u64>, AllocError>
         ensures { IfOk result (λ v. v.items ≡ entries self.now) }
     {

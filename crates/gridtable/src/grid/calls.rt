@@ -100,6 +100,7 @@ impl<'a> Table<Kern> for GridTable<'a> {
         if place >= self.capacity() {
             return None;
         }
+        // kept: both casts are proved to fit, and `try_from` would add an error that cannot come
         let key = Pair {
             left: (place / self.side) as u16,
             right: (place % self.side) as u16,

@@ -24,8 +24,8 @@ returns c =
       nth = omega (arith, s.2, e);
     }
 
-pub unreachable : goal.unreachable
-unreachable c =
+pub unreachable-requires : goal.unreachable-requires
+unreachable-requires c =
     let at : min c.args.i 64 ≡ c.args.i = omega arith in
     let e = c.ones_below.ensures ∙ ap (ones_under c.args.w) at in
     ⊎_elim (λ l. omega arith) (λ l. omega arith) c.in_default.ensures
