@@ -5,8 +5,8 @@
 //! Only a value may have a minus, and `-0` is none.
 #![tactic(auto)]
 
-ghost use Rattle.std.specs.Prelude.{◌≡◌, ◌<◌, ◌≤◌, ◌++◌, MatchResult};
-ghost use Rattle.std.specs.Str.Parse.{AllDigits};
+ghost use Rattle.std.specs.Prelude.{◌≡◌, ◌<◌, ◌≤◌, ◌++◌, MatchResult, min};
+ghost use Rattle.std.specs.Str.Parse.{AllDigits, digits_value};
 ghost use Rattle.figures.specs.Figures.{Stops, Read, NoFigure, Whole, NoWhole, Spaced, NoSpaced, Natural};
 ghost use Rattle.figures.specs.Amounts.{Glyphed, Within, Weighed, Paired};
 
@@ -29,6 +29,18 @@ fn leading_digits(bytes: &[u8]) -> (&[u8], &[u8])
     bytes.split_at(first_other.unwrap_or(bytes.len()))
 }
 
+// The number that digits write, or 65,536 where that is more.
+fn capped(digits: &[u8]) -> u32
+    requires { AllDigits 10 digits.now }
+    ensures { result ≡ min (digits_value 10 digits.now) 65536 }
+{
+    let mut number = 0;
+    for digit in digits {
+        number = (10 * number + u32::from(digit - b'0')).min(65536);
+    }
+    number
+}
+
 /// The figure that the bytes begin with, and what follows it. A number past 65,536 is given as 65,536.
 // kept: 65,536 is no code. It is above every limit here, and what is refused for it is refused for any larger number.
 pub fn figure(bytes: &[u8]) -> Result<(u32, &[u8]), FigureFault>
@@ -37,7 +49,7 @@ pub fn figure(bytes: &[u8]) -> Result<(u32, &[u8]), FigureFault>
     let (digits, rest) = leading_digits(bytes);
     match digits {
         [] | [b'0', _, ..] => Err(FigureFault::Unreadable),
-        _ => Ok((natural(digits).unwrap_or(65536).min(65536) as u32, rest)),
+        _ => Ok((capped(digits), rest)),
     }
 }
 

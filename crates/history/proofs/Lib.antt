@@ -4,4 +4,3 @@ pub mod Keys
 pub mod Rolls
 pub mod Answers
 pub mod Histories
-pub mod Texts

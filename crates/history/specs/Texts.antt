@@ -1,5 +1,5 @@
 -- What is written of what a book did.
-use Rattle.std.specs.Prelude.{ℕ, List, ◌++◌, Some, None, Option, codes, option_map}
+use Rattle.std.specs.Prelude.{ℕ, List, [], ◌++◌, Some, None, Option, codes, option_map, unwrap_or}
 use Rattle.history.specs.declared.answer.Found.{Found}
 use Rattle.history.specs.declared.answer.Found.TheVariants as found
 use Rattle.history.specs.declared.answer.Stored.{Stored}
@@ -24,11 +24,6 @@ told_text shown (told.Stored s) = Some (stored_text s)
 told_text shown told.Dropped = Some (codes "dropped")
 told_text shown (told.Found f) = found_text shown f
 
--- the same, with its values as `shown` writes them
+-- the same, where each value has a text, as `shown` writes it
 abbrev pub book_text : {V : Type 0} → (V → List ℕ) → Told V → List ℕ
-book_text shown (told.Stored Kept) = codes "kept"
-book_text shown (told.Stored Changed) = codes "changed"
-book_text shown told.Dropped = codes "dropped"
-book_text shown (told.Found found.Filter) = codes "none filter"
-book_text shown (told.Found (found.Table None)) = codes "none table"
-book_text shown (told.Found (found.Table (Some v))) = shown v ++ codes " table"
+book_text shown told = unwrap_or (told_text (λ v. Some (shown v)) told) []
