@@ -22,5 +22,5 @@ answer_line number reply = ((decimal number ++ codes " ") ++ text_for reply) ++ 
 -- the buffer before and after an answer is written, and what is told of it
 abbrev pub Answered : ℕ → Result Done Refusal → List ℕ → List ℕ → Result ℕ BufferFault → Type 0
 Answered number reply before after (Ok n) =
-    (32 ≤ length before) × (n ≡ length (answer_line number reply)) × (after ≡ answer_line number reply ++ drop n before)
+    (32 ≤ length before) × (n ≡ length (answer_line number reply)) × (n ≤ 32) × (after ≡ answer_line number reply ++ drop n before)
 Answered number reply before after (Err ShortBuffer) = (length before < 32) × (after ≡ before)

@@ -87,9 +87,11 @@ fn try_book<X: Table<Kern>>(
     Ok(())
 }
 
-/// A book over a list of four records, one over a grid of eight glyphs, and one whose filter has no slot.
+/// A book over a list of four records, one over a grid of eight glyphs, and one whose filter has no slot; then books over a list that holds a pair at the
+/// opening, with a slot for it and with none.
 fn run(rt: &HostRuntime, plan: Plan) -> io::Result<()> {
     let mut words = [0u64; 11];
+    let mut few = [0u64; 10]; // one word less than a block has
     let mut records = [Record {
         key: pair(0, 0),
         value: 0i16,
@@ -108,9 +110,17 @@ fn run(rt: &HostRuntime, plan: Plan) -> io::Result<()> {
     try_book(
         rt,
         plan,
-        &mut words[0..10],
+        &mut few,
         &mut ListTable::<Kern>::begin(&mut records),
-    )
+    )?;
+    let mut table = ListTable::<Kern>::begin(&mut records);
+    if table.set(pair(7, 7), 21).is_err() {
+        return println!(rt; "table full");
+    }
+    println!(rt; "one held")?;
+    try_book(rt, plan, &mut words, &mut table)?;
+    println!(rt; "no slot for what is held")?;
+    try_book(rt, plan, &mut few, &mut table)
 }
 
 fn main(rt: HostRuntime) -> io::Result<()> {

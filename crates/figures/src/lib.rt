@@ -68,7 +68,7 @@ pub fn natural(bytes: &[u8]) -> Option<u64>
 pub fn glyph_number(number: u32) -> Result<u16, FigureFault>
     ensures { MatchResult result (λ g. (g ≡ number) × (number ≤ 65535)) (λ e. (e ≡ FigureFault.TooLarge) × (65535 < number)) }
 {
-    // kept: the guard shows the limit that the contract names; `try_from` would leave it to the types
+    // kept: the project's form for figures that were read, a match whose guard shows the limit that the contract names
     match number {
         n if n <= 65535 => Ok(n as u16),
         _ => Err(FigureFault::TooLarge),

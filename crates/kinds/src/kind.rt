@@ -19,7 +19,8 @@ pub trait Kind {
         ensures { held_bytes result ≡ bytes key.now };
 
     /// Whether two keys are the same.
-    // kept: each kind gives the one line. A body here would need `==` of any key, and a law that ties it to the bytes.
+    // kept: each kind gives the one line. A body here would make both keys' bytes anew for each record that a search passes, or need `==` of any key and a
+    // law that ties it to the bytes.
     fn same(a: &Self::Key, b: &Self::Key) -> bool
         ensures { result ≡ same_key bytes a.now b.now };
 

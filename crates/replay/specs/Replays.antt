@@ -1,6 +1,6 @@
 -- What a book makes of operations, and the law over a whole history. Below, f and m are the filter and the table's meaning before, g and n after;
 -- number gives each key its 64-bit number.
-use Rattle.std.specs.Prelude.{◌≡◌, ℕ, List, ◌∷◌, ◌++◌, map, length, None, Ok, Err, vec_items, Option, Result, Vec}
+use Rattle.std.specs.Prelude.{◌≡◌, ℕ, ◌<◌, List, ◌∷◌, ◌++◌, map, length, None, Ok, Err, vec_items, Option, Result, Vec}
 use Rattle.layout.specs.Rule.{Roomy}
 use Rattle.filter.specs.Cuts.{cut_to}
 use Rattle.filter.specs.Filters.{words_of, slots_of, laid_over}
@@ -50,8 +50,8 @@ pub record Replayed {K V : Type 0} (bytes : K → List ℕ) (number : K → ℕ)
   -- the words are those laid out from nothing with the fingerprints of the current keys, one for each key, however they are listed; later words stay
   pub words : (ks : List K) → Current bytes (value_in bytes n) ks → words_of g ≡ laid_over f.plan.r f.blocks (map (λ k. cut_to f.plan (number k)) ks) (words_of f)
 
--- Want of memory changes nothing. An opening is refused exactly where the held keys crowd some quotient: the filter is then empty, and no operation is done.
+-- Want of memory changes nothing, and no operations want none. An opening is refused exactly where the held keys crowd some quotient: the filter is then empty, and no operation is done.
 abbrev pub ReplayDone : {A : Type 0} {K V : Type 0} → (K → List ℕ) → (K → ℕ) → Filter → Filter → Meaning K V → Meaning K V → List (Operation K V) → Result (Vec (Answer V) A) ReplayFault → Type 0
 ReplayDone bytes number f g m n ops (Ok answers) = Replayed bytes number f g m n ops (vec_items answers)
-ReplayDone bytes number f g m n ops (Err NoMemory) = (g ≡ f) × (n ≡ m)
+ReplayDone bytes number f g m n ops (Err NoMemory) = (0 < length ops) × (g ≡ f) × (n ≡ m)
 ReplayDone bytes number f g m n ops (Err (Opening e)) = Opened number f g m (Err e) × (n ≡ m)

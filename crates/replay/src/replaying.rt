@@ -21,6 +21,7 @@ pub fn perform<K: Kind, X: Table<K>, P: Fingerprint<K>>(
         Steady (at book.old) (at book.new) }
     ensures asked { let at = standing X.Table.meaning X.Table.lender X.Table.beyond P.Fingerprint.number in
         Asked K.Kind.bytes (at book.old) (at book.new) operation.now result }
+    ensures undone { is_ok result ≡ false → book.new.table.now ≡ book.old.table.now }
 {
     Ok(match operation {
         Operation::Put(key, value) => Told::Stored(book.put::<K>(*key, *value)?),

@@ -40,6 +40,6 @@ LineDone k k' l l' line reply = (r : Result Command LineFault) × Meant line r �
 -- stays as it is.
 abbrev pub LineWritten : {B C : Type 0} → Standing Pair ℤ B → Standing Pair ℤ B → Standing Sequence ℕ C → Standing Sequence ℕ C → ℕ → List ℕ → List ℕ → List ℕ → Result ℕ SheetFault → Type 0
 LineWritten k k' l l' number line before after (Ok n) =
-    (32 ≤ length before) × ((reply : Result Done Refusal) × LineDone k k' l l' line reply × (n ≡ length (answer_line number reply)) × (after ≡ answer_line number reply ++ drop n before))
+    (32 ≤ length before) × ((reply : Result Done Refusal) × LineDone k k' l l' line reply × (n ≡ length (answer_line number reply)) × (n ≤ 32) × (after ≡ answer_line number reply ++ drop n before))
 LineWritten k k' l l' number line before after (Err e) =
     (length before < 32) × (e ≡ record { line = number; fault = Buffer ShortBuffer }) × (after ≡ before) × (k' ≡ k) × (l' ≡ l)

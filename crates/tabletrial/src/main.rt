@@ -13,8 +13,8 @@ use tables::{Record, Table};
 /// The glyphs below this have cells in the grid.
 const SIDE: u32 = 2;
 
-/// What both tables are asked.
-const STEPS: [Step; 19] = [
+/// Calls on pairs that both tables admit.
+const SHARED: [Step; 17] = [
     Step::Look(Pair { left: 0, right: 1 }),
     Step::Set(Pair { left: 0, right: 1 }, -40),
     Step::Set(Pair { left: 1, right: 0 }, 25),
@@ -26,21 +26,29 @@ const STEPS: [Step; 19] = [
     Step::Set(Pair { left: 0, right: 0 }, 0),
     Step::Set(Pair { left: 1, right: 1 }, -32768),
     Step::Set(Pair { left: 0, right: 1 }, 32767),
-    Step::Set(Pair { left: 2, right: 0 }, 7),
     Step::Remove(Pair { left: 1, right: 0 }),
     Step::Remove(Pair { left: 1, right: 0 }),
     Step::Look(Pair { left: 1, right: 0 }),
     Step::Look(Pair { left: 1, right: 1 }),
-    Step::Set(Pair { left: 2, right: 0 }, 7),
-    Step::Look(Pair { left: 2, right: 0 }),
+    Step::Look(Pair { left: 0, right: 0 }),
     Step::Look(Pair { left: 0, right: 1 }),
 ];
 
-/// Makes the calls on a table, and prints them with their answers.
-fn try_table<X: Table<Kern>>(rt: &HostRuntime, table: &mut X) -> io::Result<()>
+/// Calls that only the list admits: with a pair that has no cell in the grid.
+const APART: [Step; 5] = [
+    Step::Set(Pair { left: 2, right: 0 }, 7),
+    Step::Look(Pair { left: 2, right: 0 }),
+    Step::Set(Pair { left: 1, right: 0 }, 8),
+    Step::Remove(Pair { left: 2, right: 0 }),
+    Step::Look(Pair { left: 0, right: 1 }),
+];
+
+/// Makes calls on a table, and prints them with their answers.
+fn make_calls<X: Table<Kern>>(rt: &HostRuntime, table: &mut X, steps: &[Step]) -> io::Result<()>
     requires { X.Table.sound table.old }
+    ensures { X.Table.sound table.new }
 {
-    for step in &STEPS {
+    for step in steps {
         match act(table, *step) {
             Ok(reply) => println!(rt; "{step}: {reply}")?,
             Err(fault) => println!(rt; "{step}: refused {fault}")?,
@@ -49,6 +57,14 @@ fn try_table<X: Table<Kern>>(rt: &HostRuntime, table: &mut X) -> io::Result<()>
     let held = table.held();
     let capacity = table.capacity();
     println!(rt; "{held} held of {capacity}")
+}
+
+/// Makes the calls that both tables admit, and then the others.
+fn try_table<X: Table<Kern>>(rt: &HostRuntime, table: &mut X) -> io::Result<()>
+    requires { X.Table.sound table.old }
+{
+    make_calls(rt, table, &SHARED)?;
+    make_calls(rt, table, &APART)
 }
 
 fn main(rt: HostRuntime) -> io::Result<()> {

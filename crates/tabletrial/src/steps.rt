@@ -16,6 +16,7 @@ pub enum Step {
 }
 
 /// What a call answers, if it is not refused.
+// kept: an Option of an Option would say as much, and not that the outer None is a change.
 #[derive(Clone, Copy)]
 pub enum Reply {
     /// The table is changed.

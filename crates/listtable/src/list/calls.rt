@@ -1,5 +1,5 @@
 //! The calls on a list table.
-ghost use Rattle.std.specs.Prelude.{◌≡◌, List, length, take};
+ghost use Rattle.std.specs.Prelude.{◌≡◌, ◌<◌, List, length, set, take};
 ghost use Rattle.std.specs.List.{position};
 ghost use Rattle.kinds.specs.Keys.{same_key};
 ghost use Rattle.tables.specs.declared.record.Record.{Record as Entry};
@@ -12,6 +12,14 @@ use tables::{Record, Table, TableFault};
 
 /// No list holds more keys.
 const MOST: usize = 65_536;
+
+/// Writes a record at a place.
+fn write<Q: Copy, V: Copy>(records: &mut [Record<Q, V>], place: usize, record: Record<Q, V>)
+    requires { place < length records.old }
+    ensures { records.new ≡ set records.old place «record» }
+{
+    records[place] = record;
+}
 
 impl<'a, K: Kind> ListTable<'a, K> {
     /// Begins an empty table over records. They stay as they are until calls write them.
@@ -83,20 +91,21 @@ impl<'a, K: Kind> Table<K> for ListTable<'a, K> {
     fn set(&mut self, key: K::Key, value: K::Value) -> Result<(), TableFault> {
         let record = Record { key, value };
         if let Some(place) = self.place(key) {
-            self.records[place] = record;
+            write(&mut self.records[..], place, record);
             return Ok(());
         }
         if self.held() == self.capacity() {
             return Err(TableFault::TableFull);
         }
-        self.records[self.held] = record;
+        write(&mut self.records[..], self.held, record);
         self.held += 1;
         Ok(())
     }
 
     fn remove(&mut self, key: K::Key) -> Result<(), TableFault> {
         let place = self.place(key).ok_or(TableFault::NotHeld)?;
-        self.records[place] = self.records[self.held - 1];
+        let last = self.records[self.held - 1];
+        write(&mut self.records[..], place, last);
         self.held -= 1;
         Ok(())
     }

@@ -1,22 +1,24 @@
-use Rattle.std.proofs.Common.{◌≡◌, ℕ, Some, None, refl, inl, inr, arith}
+use Rattle.std.proofs.Common.{◌≡◌, ℕ, ◌+◌, Some, None, sym, refl, subst, inl, inr, arith}
 use Rattle.tables.proofs.Changes.{same_frame}
 use Rattle.listtable.specs.Lists.{list_meaning}
 use Rattle.listtable.specs.Propers.{count_places}
-use Rattle.listtable.proofs.Lists.{placed, overwritten, appended, full, is_held}
+use Rattle.listtable.proofs.Lists.{Changed, placed, overwritten, appended, full, is_held}
 use Rattle.listtable.proofs.list.calls.ListTableTable.set.Goals as goal
 
 pub invariant_of-self : goal.invariant_of-self
 invariant_of-self g c =
     let table = c.args.self.now in
     let at = placed g.K.Kind.bytes g.met.K.Kind.apart table.held table.records.now table.within c.args.key (Some c.in-Some.place) c.in-Some.ensures in
-    let t = overwritten g.K.Kind.bytes g.met.K.Kind.apart table.held table.records.now table.within table.once c.in-Some.place c.args.key c.args.value at in
+    let t = subst (λ rs. Changed g.K.Kind.bytes table.held table.held table.records.now rs c.args.key (Some c.args.value)) (sym c.write.ensures)
+    (overwritten g.K.Kind.bytes g.met.K.Kind.apart table.held table.records.now table.within table.once c.in-Some.place c.args.key c.args.value at) in
     record { within = t.within; once = t.once }
 
 pub returns-in-Some : goal.returns-in-Some
 returns-in-Some g c =
     let table = c.args.self.now in
     let at = placed g.K.Kind.bytes g.met.K.Kind.apart table.held table.records.now table.within c.args.key (Some c.in-Some.place) c.in-Some.ensures in
-    let t = overwritten g.K.Kind.bytes g.met.K.Kind.apart table.held table.records.now table.within table.once c.in-Some.place c.args.key c.args.value at in
+    let t = subst (λ rs. Changed g.K.Kind.bytes table.held table.held table.records.now rs c.args.key (Some c.args.value)) (sym c.write.ensures)
+    (overwritten g.K.Kind.bytes g.met.K.Kind.apart table.held table.records.now table.within table.once c.in-Some.place c.args.key c.args.value at) in
     record {
       sound = tt;
       frame = t.frame;
@@ -40,8 +42,8 @@ returns-then-held-capacity g c =
       undone = λ e. refl;
     }
 
-pub bounds-self-self : goal.bounds-self-self
-bounds-self-self g c =
+pub write-requires-2 : goal.write-requires-2
+write-requires-2 g c =
     let table = c.args.self.now in
     let count = count_places table.held table.records.now table.within in
     omega arith
@@ -51,7 +53,8 @@ invariant_of-self-2 g c =
     let table = c.args.self.now in
     let count = count_places table.held table.records.now table.within in
     let none = placed g.K.Kind.bytes g.met.K.Kind.apart table.held table.records.now table.within c.args.key None c.in_default.ensures in
-    let t = appended g.K.Kind.bytes g.met.K.Kind.apart table.held table.records.now table.within table.once c.args.key c.args.value none (omega arith) in
+    let t = subst (λ rs. Changed g.K.Kind.bytes table.held (table.held + 1) table.records.now rs c.args.key (Some c.args.value)) (sym c.write-2.ensures)
+    (appended g.K.Kind.bytes g.met.K.Kind.apart table.held table.records.now table.within table.once c.args.key c.args.value none (omega arith)) in
     record { within = t.within; once = t.once }
 
 pub returns : goal.returns
@@ -59,7 +62,8 @@ returns g c =
     let table = c.args.self.now in
     let count = count_places table.held table.records.now table.within in
     let none = placed g.K.Kind.bytes g.met.K.Kind.apart table.held table.records.now table.within c.args.key None c.in_default.ensures in
-    let t = appended g.K.Kind.bytes g.met.K.Kind.apart table.held table.records.now table.within table.once c.args.key c.args.value none (omega arith) in
+    let t = subst (λ rs. Changed g.K.Kind.bytes table.held (table.held + 1) table.records.now rs c.args.key (Some c.args.value)) (sym c.write-2.ensures)
+    (appended g.K.Kind.bytes g.met.K.Kind.apart table.held table.records.now table.within table.once c.args.key c.args.value none (omega arith)) in
     record {
       sound = tt;
       frame = t.frame;
