@@ -1,6 +1,7 @@
 -- Which lines are refused.
-use Rattle.std.specs.Prelude.{◌≡◌, ℕ, ◌+◌, List, [], ◌∷◌, ℤ, Some, None, Ok, Err, Option}
+use Rattle.std.specs.Prelude.{◌≡◌, ℕ, ◌+◌, List, [], ◌∷◌, ◌++◌, ℤ, Some, None, Ok, Err, Option, codes, decimal}
 use Rattle.history.specs.Rules.{Answer}
+use Rattle.answers.specs.Faults.{number_of}
 use Rattle.answers.specs.declared.fault.Refusal.{Refusal}
 use Rattle.answers.specs.declared.fault.Refusal.TheVariants.{Line, Book}
 use Rattle.batch.specs.Batches.{Destination}
@@ -35,3 +36,7 @@ refused_from n (Ok Ligature ∷ ds) ks (a ∷ gs) = noted n (refusal_for a) (ref
 -- A line with this destination is refused so or not, and leaves these answers: so it is in front of any lines, whatever its own number.
 abbrev pub Told : Destination → List (Answer ℤ) → List (Answer ℕ) → Option Refusal → List (Answer ℤ) → List (Answer ℕ) → Type 0
 Told d ks gs refusal ks' gs' = (n : ℕ) (ds : List Destination) → refused_from n (d ∷ ds) ks gs ≡ noted n refusal (refused_from (n + 1) ds ks' gs')
+
+-- what is written of a refused line: its number and that of its refusal
+abbrev pub refused_text : RefusedLine → List ℕ
+refused_text l = codes "line " ++ (decimal l.line ++ (codes " fault " ++ decimal (number_of l.fault)))

@@ -1,7 +1,11 @@
+ghost use Rattle.std.specs.Prelude.{Some};
+ghost use Rattle.batch.specs.Reports.{refused_text};
+
 use answers::Refusal;
 use forms::LineFault;
 use history::Operation;
 use kinds::{Pair, Sequence};
+use std::fmt;
 
 /// One of the two books.
 #[derive(Clone, Copy, PartialEq, Eq, Debug)]
@@ -33,4 +37,13 @@ pub struct Batch {
 pub struct RefusedLine {
     pub line: usize,
     pub fault: Refusal,
+}
+
+/// Its number and that of its refusal.
+impl fmt::Display for RefusedLine {
+    ghost output = { λ r. Some (refused_text r) };
+
+    fn fmt<W: fmt::Write>(&self, f: &mut fmt::Formatter<W>) -> fmt::Result {
+        write!(f, "line {} fault {}", self.line, self.fault)
+    }
 }

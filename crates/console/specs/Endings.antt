@@ -23,8 +23,8 @@ Ended (Err Memory) = ⊥
 Ended (Err Stream) = ⊥
 Ended (Err Arguments) = ⊥
 
--- some words asked for a request; it was printed, which took the output from out to after; and that ended as it may
-abbrev pub Performed : {O : Type 0} → Option Request → (O → Request → Result (Unit {0}) Fault → O → Type 0) → Type 0
-Performed {O} usual prints =
-    (words : List (String Global)) × (request : Request) × (out : O) × (done : Result (Unit {0}) Fault) × (after : O)
-    × Requested usual words (Ok request) × prints out request done after × Ended done
+-- some words asked for a request, or for none; it was printed, which took the output from out to after; and that ended as it may
+abbrev pub Performed : {O : Type 0} → (O → Option Request → Result (Unit {0}) Fault → O → Type 0) → Type 0
+Performed {O} prints =
+    (words : List (String Global)) × (request : Option Request) × (out : O) × (done : Result (Unit {0}) Fault) × (after : O)
+    × Requested words (Ok request) × prints out request done after × Ended done

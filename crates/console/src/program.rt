@@ -1,6 +1,7 @@
 //! How a program runs and ends.
 ghost use Rattle.std.specs.Prelude.{◌≡◌, ◌⊎◌, MatchResult, OnOk, Some};
 ghost use Rattle.std.specs.Io.KnownBytes.{Appends};
+ghost use Rattle.console.specs.declared.fault.Fault.TheVariants.{Memory, Stream, Arguments};
 ghost use Rattle.console.specs.Texts.{refused_text, stop_text};
 ghost use Rattle.console.specs.Endings.{last_text, Ended, Performed};
 
@@ -9,7 +10,7 @@ use crate::request::Request;
 use filter::FilterFault;
 use std::io::{BufWriter, Stdout, Write};
 use std::process::ExitCode;
-use std::{env, fmt};
+use std::{env, fmt, io};
 
 /// The line that shows a refusal: its number.
 #[derive(Clone, Copy, PartialEq, Eq, Debug)]
@@ -24,15 +25,13 @@ impl fmt::Display for Refused {
     }
 }
 
-/// A program that prints what a request of three numbers and standard input ask for.
+/// A program that prints what a request of three numbers, or none, and standard input ask for.
 #[derive(Clone, Copy)]
 pub struct Program {
     /// Its name.
     pub name: &'static str,
     /// The arguments that it takes, as its usage shows them.
     pub arguments: &'static str,
-    /// The request that it takes no arguments for.
-    pub usual: Option<Request>,
 }
 
 /// Why a program stops, as it says on standard error.
@@ -57,6 +56,17 @@ impl fmt::Display for Stop<'_> {
     }
 }
 
+// Why the arguments cannot be read: one that is no text is none that a program takes.
+fn arguments_fault(error: io::Error) -> Fault
+    ensures { (result ≡ Arguments) ⊎ ((result ≡ Memory) ⊎ (result ≡ Stream)) }
+{
+    match error.kind() {
+        io::ErrorKind::InvalidData => Fault::Arguments,
+        io::ErrorKind::OutOfMemory => Fault::Memory,
+        _ => Fault::Stream,
+    }
+}
+
 /// Ends what a program prints: a refusal is its last line.
 fn conclude<W: Write>(out: &mut W, done: Result<(), Fault>) -> Result<(), Fault>
     ensures printed { OnOk result (Appends (W.contents out.old) (W.contents out.new) (last_text done)) }
@@ -73,16 +83,17 @@ fn conclude<W: Write>(out: &mut W, done: Result<(), Fault>) -> Result<(), Fault>
 
 impl Program {
     /// Prints what the arguments ask for.
-    fn perform<F: FnOnce(&HostRuntime, &mut BufWriter<Stdout>, Request) -> Result<(), Fault>>(
-        &self,
-        rt: &HostRuntime,
-        print: F,
-    ) -> Result<(), Fault>
+    fn perform<
+        F: FnOnce(&HostRuntime, &mut BufWriter<Stdout>, Option<Request>) -> Result<(), Fault>,
+    >(&self, rt: &HostRuntime, print: F) -> Result<(), Fault>
         requires { F.IsAlwaysCallable print }
-        ensures { OnOk result (Performed self.now.usual (F.post print rt.entry)) }
+        ensures { OnOk result (Performed (F.post print rt.entry)) }
     {
-        let words: Vec<String> = env::args(rt)?.skip(1).collect(rt.alloc())?;
-        let request = Request::of(words.as_slice(), self.usual)?;
+        let words: Vec<String> = env::args(rt)
+            .map_err(arguments_fault)?
+            .skip(1)
+            .collect(rt.alloc())?;
+        let request = Request::of(words.as_slice())?;
         let mut out = BufWriter::new(rt.alloc(), rt.stdout())?;
         let done = print(rt, &mut out, request);
         conclude(&mut out, done)
@@ -105,13 +116,11 @@ impl Program {
     }
 
     /// Runs the program: prints what the arguments ask for, and says on standard error why where it stops.
-    pub fn run<F: FnOnce(&HostRuntime, &mut BufWriter<Stdout>, Request) -> Result<(), Fault>>(
-        &self,
-        rt: &HostRuntime,
-        print: F,
-    ) -> ExitCode
+    pub fn run<
+        F: FnOnce(&HostRuntime, &mut BufWriter<Stdout>, Option<Request>) -> Result<(), Fault>,
+    >(&self, rt: &HostRuntime, print: F) -> ExitCode
         requires { F.IsAlwaysCallable print }
-        ensures { ((result ≡ ExitCode.SUCCESS) × Performed self.now.usual (F.post print rt.entry)) ⊎ (result ≡ ExitCode.FAILURE) }
+        ensures { ((result ≡ ExitCode.SUCCESS) × Performed (F.post print rt.entry)) ⊎ (result ≡ ExitCode.FAILURE) }
     {
         self.status(rt, self.perform(rt, print))
     }

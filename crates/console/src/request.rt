@@ -1,4 +1,4 @@
-//! The arguments `q r blocks`.
+//! The arguments `q r blocks`, or none.
 ghost use Rattle.std.specs.Prelude.{◌≡◌, ◌≤◌, MatchResult};
 ghost use Rattle.console.specs.Requests.{Asked, Requested};
 
@@ -26,13 +26,13 @@ fn asked(q: &[u8], r: &[u8], blocks: &[u8]) -> Result<Request, FigureFault>
 }
 
 impl Request {
-    /// What words ask for: three of them, or none where there is a usual request.
-    pub fn of(words: &[String], usual: Option<Request>) -> Result<Request, Fault>
-        ensures { Requested usual words.now result }
+    /// What words ask for: nothing where there are none, else what three of them ask for.
+    pub fn of(words: &[String]) -> Result<Option<Request>, Fault>
+        ensures { Requested words.now result }
     {
         match words {
-            [] => usual.ok_or(Fault::Arguments),
-            [q, r, blocks] => Ok(asked(q.as_bytes(), r.as_bytes(), blocks.as_bytes())?),
+            [] => Ok(None),
+            [q, r, blocks] => Ok(Some(asked(q.as_bytes(), r.as_bytes(), blocks.as_bytes())?)),
             _ => Err(Fault::Arguments),
         }
     }

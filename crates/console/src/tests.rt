@@ -31,7 +31,7 @@ fn a_refusal_shows_its_number(rt: HostRuntime) -> Result<(), Fail> {
 }
 
 #[test]
-fn three_words_are_a_request(rt: HostRuntime) -> Result<(), Fail> {
+fn three_words_are_a_request_and_none_are_none(rt: HostRuntime) -> Result<(), Fail> {
     let heap = rt.alloc();
     let words = vec![in heap;
         String::from_str(heap, "8")?,
@@ -43,14 +43,8 @@ fn three_words_are_a_request(rt: HostRuntime) -> Result<(), Fail> {
         r: 24,
         blocks: 65536,
     };
-    assert!(rt; matches!(Request::of(words.as_slice(), None), Ok(asked) if asked == wanted));
-    assert!(rt;
-        matches!(
-            Request::of(&words.as_slice()[1..], Some(wanted)),
-            Err(Fault::Arguments)
-        )
-    );
-    assert!(rt; matches!(Request::of(&[], Some(wanted)), Ok(asked) if asked == wanted));
-    assert!(rt; matches!(Request::of(&[], None), Err(Fault::Arguments)));
+    assert!(rt; matches!(Request::of(words.as_slice()), Ok(Some(asked)) if asked == wanted));
+    assert!(rt; matches!(Request::of(&words.as_slice()[1..]), Err(Fault::Arguments)));
+    assert!(rt; matches!(Request::of(&[]), Ok(None)));
     Ok(())
 }

@@ -20,7 +20,6 @@ use std::process::ExitCode;
 const FILTERLOG: Program = Program {
     name: "filterlog",
     arguments: "q r blocks",
-    usual: None,
 };
 
 /// Runs the command that a line is, and prints what it answers, or the number of its refusal.
@@ -43,7 +42,12 @@ fn print_answer<W: Write>(
 }
 
 /// Runs the commands on standard input, in order, on a filter that is empty at first.
-fn print_answers<W: Write>(rt: &HostRuntime, out: &mut W, request: Request) -> Result<(), Fault> {
+fn print_answers<W: Write>(
+    rt: &HostRuntime,
+    out: &mut W,
+    request: Option<Request>,
+) -> Result<(), Fault> {
+    let request = request.ok_or(Fault::Arguments)?;
     let plan = request.plan()?;
     let mut text = Vec::new(rt.alloc());
     rt.stdin().read_to_end(&mut text)?;

@@ -1,3 +1,3 @@
-pub mod Pairs
-pub mod Lists
-pub mod Filling
+pub mod Sizes
+pub mod Books
+pub mod Reports

@@ -1,54 +1,42 @@
-//! Reads a kerning list from standard input, and prints the words of the filter that ships with it.
+//! Reads edits of a kerning book and a ligature book from standard input, and prints which of its lines are refused and the words of both filters.
 #![tactic(auto)]
 
-mod filling;
-mod lists;
-mod pairs;
+ghost use Rattle.kernwords.specs.Reports.{PrintDone};
+
+mod books;
+mod report;
+mod sizes;
 
 use console::fault::Fault;
 use console::program::Program;
 use console::request::Request;
-use console::storage::Blocks;
-use filling::words_of;
-use filter::MOST_BLOCKS;
-use lists::read_list;
-use pairs::distinct;
+use report::report_of;
+use sizes::kern_size;
 use std::io::{Read, Write};
 use std::process::ExitCode;
 
-/// This program. With no arguments it makes the filter that ships.
+/// This program. With no arguments the kerning book is the one that ships.
 const KERNWORDS: Program = Program {
     name: "kernwords",
     arguments: "[q r blocks]",
-    usual: Some(Request {
-        q: 8,
-        r: 24,
-        blocks: 5,
-    }),
 };
 
-/// Prints what the list on standard input says, and its words, for as many blocks as were asked for, at most 16,640.
-fn print_list<W: Write>(rt: &HostRuntime, out: &mut W, request: Request) -> Result<(), Fault> {
-    let plan = request.plan()?;
+/// Prints what the edits on standard input make of two books that begin empty.
+fn print_books<W: Write>(
+    rt: &HostRuntime,
+    out: &mut W,
+    request: Option<Request>,
+) -> Result<(), Fault>
+    ensures { PrintDone request (W.contents out.old) (W.contents out.new) result }
+{
+    let kern = kern_size(request)?;
     let mut text = Vec::new(rt.alloc());
     rt.stdin().read_to_end(&mut text)?;
-    let list = read_list(rt.alloc(), text.as_slice())?;
-    let q = plan.q();
-    let r = plan.r();
-    let blocks = (request.blocks as usize).min(MOST_BLOCKS);
-    let slots = 64 * blocks;
-    writeln!(out, "plan q {q} r {r} blocks {blocks} slots {slots}")?;
-    for number in list.bad.iter() {
-        writeln!(out, "line {number} unreadable")?;
-    }
-    let pairs = distinct(list.pairs);
-    let count = pairs.len();
-    writeln!(out, "pairs {count}")?;
-    let words = words_of(rt.alloc(), plan, blocks, pairs.as_slice())?;
-    write!(out, "{}", Blocks::of(plan, words.as_slice()))?;
+    let report = report_of(rt.alloc(), kern, text.as_slice())?;
+    write!(out, "{report}")?;
     Ok(())
 }
 
 fn main(rt: HostRuntime) -> ExitCode {
-    KERNWORDS.run(&rt, print_list)
+    KERNWORDS.run(&rt, print_books)
 }

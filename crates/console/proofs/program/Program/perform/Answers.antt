@@ -5,5 +5,5 @@ use Rattle.console.proofs.program.Program.perform.Goals as goal
 
 pub returns : goal.returns
 returns g c =
-    let asked = subst (Requested c.args.self.now.usual c.as_slice.result.now) c.in_ok-request.was c.of.ensures in
+    let asked = subst (Requested c.as_slice.result.now) c.in_ok-request.was c.of.ensures in
     on_ok_weaker c.conclude.result (λ ended. (_, _, _, _, _, asked, c.print-done.ensures, ended)) c.conclude.ensures.ended

@@ -1,0 +1,69 @@
+-- What is printed in answer to a text of edits.
+use Rattle.std.specs.Prelude.{◌≡◌, ℕ, ◌+◌, ◌*◌, min, List, [], ◌∷◌, ◌++◌, ℤ, flat_map, Ok, Err, codes, decimal, vec_items, Option, Result}
+use Rattle.std.specs.Io.KnownBytes.{Appends}
+use Rattle.figures.specs.Lines.{lines_of}
+use Rattle.kinds.specs.Bytes.{pair_bytes, sequence_bytes}
+use Rattle.kinds.specs.Hashes.{fibonacci, fnv}
+use Rattle.kinds.specs.declared.kern.Pair.{Pair}
+use Rattle.kinds.specs.declared.sequence.Sequence.{Sequence}
+use Rattle.history.specs.Rules.{Answer}
+use Rattle.history.specs.declared.operation.Operation.{Operation}
+use Rattle.batch.specs.Batches.{Destination, Sorted}
+use Rattle.batch.specs.Reports.{refused_from, refused_text}
+use Rattle.console.specs.Texts.{blocks_text}
+use Rattle.console.specs.declared.fault.Fault.{Fault}
+use Rattle.console.specs.declared.fault.Fault.TheVariants.{Memory, Stream, Arguments, Filter}
+use Rattle.console.specs.declared.request.Request.{Request}
+use Rattle.kernwords.specs.Books.{list_terms, Begun}
+use Rattle.kernwords.specs.Sizes.{KernSized, LigatureSized}
+use Rattle.kernwords.specs.declared.sizes.Size.{Size}
+use Rattle.kernwords.specs.declared.report.BookWords.{BookWords}
+use Rattle.kernwords.specs.declared.report.Report.{Report}
+
+-- a book: its plan, blocks, slots and how many keys it holds, and then a line for each block
+abbrev pub book_text : BookWords → List ℕ
+book_text b =
+    codes "q " ++ (decimal b.size.plan.q ++ (codes " r " ++ (decimal b.size.plan.r ++ (codes " blocks " ++ (decimal b.size.blocks
+    ++ (codes " slots " ++ (decimal (64 * b.size.blocks) ++ (codes " held " ++ (decimal b.held ++ (10 ∷ blocks_text (b.size.plan.r + 3) (vec_items b.words)))))))))))
+
+-- the refused lines, each with its end, and both books
+abbrev pub report_text : Report → List ℕ
+report_text r = flat_map (λ l. refused_text l ++ (10 ∷ [])) (vec_items r.refused) ++ (codes "kern " ++ (book_text r.kerns ++ (codes "ligature " ++ book_text r.ligatures)))
+
+-- a book of that size, over a list, began empty and performed operations: what it answered, and the book as it is printed
+pub record Kept {K V : Type 0} (bytes : K → List ℕ) (number : K → ℕ) (size : Size) (ops : List (Operation K V)) (answers : List (Answer V)) (b : BookWords) : Type 0 where
+  pub sized : b.size ≡ size
+  pub done : Begun (list_terms bytes number size.plan (min size.blocks 16640) (min size.records 65536)) (min size.blocks 16640) ops answers b.held (vec_items b.words)
+
+-- What a report says of a text of edits, with a kerning book of that size: each line goes to one book as an operation, or nowhere.
+pub record Reported (size : Size) (text : List ℕ) (r : Report) : Type 0 where
+  pub kern_operations : List (Operation Pair ℤ)
+  pub ligature_operations : List (Operation Sequence ℕ)
+  pub lines : List Destination
+  pub kern_answers : List (Answer ℤ)
+  pub ligature_answers : List (Answer ℕ)
+  pub sorted : Sorted (lines_of text) kern_operations ligature_operations lines
+  -- both books
+  pub kern : Kept pair_bytes (λ k. fibonacci k.left k.right) size kern_operations kern_answers r.kerns
+  pub ligature : Kept sequence_bytes (λ k. fnv (sequence_bytes k)) r.ligatures.size ligature_operations ligature_answers r.ligatures
+  pub ligature_size : LigatureSized r.ligatures.size
+  -- the refused lines, in order
+  pub refused : vec_items r.refused ≡ refused_from 1 lines kern_answers ligature_answers
+
+-- What is printed by a request and a text, where o and p are what was printed before and after: all that a report says of the text, with a kerning book of
+-- the size that the request gives.
+pub record Printed (request : Option Request) (o p : Option (List ℕ)) : Type 0 where
+  pub size : Size
+  pub sized : KernSized request (Ok size)
+  pub text : List ℕ
+  pub report : Report
+  pub reported : Reported size text report
+  pub said : Appends o p (report_text report)
+
+-- The same, or why nothing is printed: a plan out of range, want of memory, or a stream that fails.
+abbrev pub PrintDone : Option Request → Option (List ℕ) → Option (List ℕ) → Result (Unit {0}) Fault → Type 0
+PrintDone request o p (Ok done) = Printed request o p
+PrintDone request o p (Err (Filter f)) = KernSized request (Err f) × (p ≡ o)
+PrintDone request o p (Err Arguments) = ⊥
+PrintDone request o p (Err Memory) = Unit {0}
+PrintDone request o p (Err Stream) = Unit {0}
