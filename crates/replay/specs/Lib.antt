@@ -1,2 +1,3 @@
 pub mod Replays
+pub mod Alone
 pub mod Texts

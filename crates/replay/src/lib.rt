@@ -2,7 +2,9 @@
 #![tactic(auto)]
 
 mod fault;
+mod laws;
 mod replaying;
 
 pub use fault::ReplayFault;
+pub use laws::words_alone;
 pub use replaying::{perform, replay};
