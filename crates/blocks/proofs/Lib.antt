@@ -4,3 +4,4 @@ pub mod Forms
 pub mod Readings
 pub mod Tallies
 pub mod Moving
+pub mod Shifting

@@ -1,6 +1,6 @@
--- Rows of numbers moved by one place, or changed, over a stretch: none yet, and one place more.
+-- Rows of numbers moved by one place, or changed, over a stretch: none yet, one place, and more.
 use Rattle.std.proofs.Common.{◌≡◌, ℕ, suc, ◌+◌, ◌*◌, ◌/◌, ◌%◌, ◌^◌, ◌<◌, ◌≤◌, Bool, cond, ◌&&◌, eqb, ltb, leb, ◌≢◌, ◌⊎◌, List, length, get_or, sym, refl, ap, ◌∙◌, ap₂, ⊎_elim, mul-le-mul_right, mod-eq_of_lt, arith}
-use Rattle.std.proofs.lemmas.Bool.{cond-true, cond-false, eq-eqb, ne_eqb, cases_eq, le-leb, lt-ltb, le-ltb, and_from, and_right}
+use Rattle.std.proofs.lemmas.Bool.{cond-true, cond-false, eq-eqb, ne_eqb, cases_eq, cases_lt, le-leb, lt-ltb, le-ltb, and_from, and_right}
 use Rattle.std.proofs.lemmas.Bool.Decides.{nat_tests}
 use Rattle.words.specs.Row.{row_of}
 use Rattle.words.proofs.Fields.{bit_lt, field_lt}
@@ -58,32 +58,38 @@ off_write g h i x w k ne = w k ∙ cond-false (eqb k i) x (g k) (ne_eqb k i ne)
 up_none : (f : ℕ → ℕ) (to : ℕ) → ShiftedUp f f to to
 up_none f to = record { moved = λ k lo hi. absurd (omega arith); below = λ k _. refl; above = λ k _. refl }
 
-up_more : (f g h : ℕ → ℕ) (i to : ℕ) → i < to → ShiftedUp f g (suc i) to → ((k : ℕ) → h k ≡ cond (eqb k (suc i)) (g i) (g k)) → ShiftedUp f h i to
-up_more f g h i to l s w =
-    let other : (k : ℕ) → (k ≡ suc i → ⊥) → h k ≡ g k = off_write g h (suc i) (g i) w in
-    let here : h (suc i) ≡ f i = at_write g h (suc i) (g i) w ∙ s.below i (omega arith) in
-    record {
-      moved = λ k lo hi. ⊎_elim (λ (same : k ≡ i). ap (λ n. h (suc n)) same ∙ here ∙ ap f (sym same))
-          (λ (ne : k ≢ i). other (suc k) (λ z. ne (omega arith)) ∙ s.moved k (omega arith) hi) (cases_eq k i);
-      below = λ k lo. other k (λ z. omega arith) ∙ s.below k (omega arith);
-      above = λ k hi. other k (λ z. omega arith) ∙ s.above k hi;
-    }
+up_one : (f g : ℕ → ℕ) (i : ℕ) → ((k : ℕ) → g k ≡ cond (eqb k (suc i)) (f i) (f k)) → ShiftedUp f g i (suc i)
+up_one f g i w = record {
+  moved = λ k lo hi. let same : k ≡ i = omega arith in ap (λ n. g (suc n)) same ∙ at_write f g (suc i) (f i) w ∙ ap f (sym same);
+  below = λ k lo. off_write f g (suc i) (f i) w k (λ z. omega arith);
+  above = λ k hi. off_write f g (suc i) (f i) w k (λ z. omega arith);
+}
+
+up_more : (f g h : ℕ → ℕ) (from mid to : ℕ) → from ≤ mid → mid ≤ to → ShiftedUp f g mid to → ShiftedUp g h from mid → ShiftedUp f h from to
+up_more f g h from mid to lm lt s t = record {
+  moved = λ k lo hi. ⊎_elim (λ (l : k < mid). t.moved k lo l ∙ s.below k (omega arith)) (λ (l : mid ≤ k). t.above (suc k) (omega arith) ∙ s.moved k l hi) (cases_lt k mid);
+  below = λ k lo. t.below k lo ∙ s.below k (omega arith);
+  above = λ k hi. t.above k (omega arith) ∙ s.above k hi;
+}
 
 -- ---- down, from the lowest place up
 
 down_none : (f : ℕ → ℕ) (from : ℕ) → ShiftedDown f f from from
 down_none f from = record { moved = λ k lo hi. absurd (omega arith); below = λ k _. refl; above = λ k _. refl }
 
-down_more : (f g h : ℕ → ℕ) (from i : ℕ) → from ≤ i → ShiftedDown f g from i → ((k : ℕ) → h k ≡ cond (eqb k i) (g (suc i)) (g k)) → ShiftedDown f h from (suc i)
-down_more f g h from i l s w =
-    let other : (k : ℕ) → (k ≡ i → ⊥) → h k ≡ g k = off_write g h i (g (suc i)) w in
-    let here : h i ≡ f (suc i) = at_write g h i (g (suc i)) w ∙ s.above (suc i) (omega arith) in
-    record {
-      moved = λ k lo hi. ⊎_elim (λ (same : k ≡ i). ap h same ∙ here ∙ ap (λ n. f (suc n)) (sym same))
-          (λ (ne : k ≢ i). other k ne ∙ s.moved k lo (omega arith)) (cases_eq k i);
-      below = λ k lo. other k (λ z. omega arith) ∙ s.below k lo;
-      above = λ k hi. other k (λ z. omega arith) ∙ s.above k (omega arith);
-    }
+down_one : (f g : ℕ → ℕ) (i : ℕ) → ((k : ℕ) → g k ≡ cond (eqb k i) (f (suc i)) (f k)) → ShiftedDown f g i (suc i)
+down_one f g i w = record {
+  moved = λ k lo hi. let same : k ≡ i = omega arith in ap g same ∙ at_write f g i (f (suc i)) w ∙ ap (λ n. f (suc n)) (sym same);
+  below = λ k lo. off_write f g i (f (suc i)) w k (λ z. omega arith);
+  above = λ k hi. off_write f g i (f (suc i)) w k (λ z. omega arith);
+}
+
+down_more : (f g h : ℕ → ℕ) (from mid to : ℕ) → from ≤ mid → mid ≤ to → ShiftedDown f g from mid → ShiftedDown g h mid to → ShiftedDown f h from to
+down_more f g h from mid to lm lt s t = record {
+  moved = λ k lo hi. ⊎_elim (λ (l : k < mid). t.below k l ∙ s.moved k lo l) (λ (l : mid ≤ k). t.moved k l hi ∙ s.above (suc k) (omega arith)) (cases_lt k mid);
+  below = λ k lo. t.below k (omega arith) ∙ s.below k lo;
+  above = λ k hi. t.above k hi ∙ s.above k (omega arith);
+}
 
 -- ---- a change at each place of a stretch
 
@@ -119,12 +125,20 @@ module _ (r : ℕ) (ws : List ℕ) where
     remainders = up_none (remainder_in r ws) to;
   }
 
-  pub moved_up_more : (us vs : List ℕ) (i to : ℕ) → i < to → MovedUp r ws us (suc i) to → CopiedEntry r us vs i (suc i) → MovedUp r ws vs i to
-  moved_up_more us vs i to l m w = record {
+  pub moved_up_one : (vs : List ℕ) (i : ℕ) → CopiedEntry r ws vs i (suc i) → MovedUp r ws vs i (suc i)
+  moved_up_one vs i w = record {
+    occupied = w.occupied;
+    runends = up_one (runend_in r ws) (runend_in r vs) i w.runends;
+    offsets = w.offsets;
+    remainders = up_one (remainder_in r ws) (remainder_in r vs) i w.remainders;
+  }
+
+  pub moved_up_more : (us vs : List ℕ) (from mid to : ℕ) → from ≤ mid → mid ≤ to → MovedUp r ws us mid to → MovedUp r us vs from mid → MovedUp r ws vs from to
+  moved_up_more us vs from mid to lm lt m w = record {
     occupied = λ k. w.occupied k ∙ m.occupied k;
-    runends = up_more (runend_in r ws) (runend_in r us) (runend_in r vs) i to l m.runends w.runends;
+    runends = up_more (runend_in r ws) (runend_in r us) (runend_in r vs) from mid to lm lt m.runends w.runends;
     offsets = λ k. w.offsets k ∙ m.offsets k;
-    remainders = up_more (remainder_in r ws) (remainder_in r us) (remainder_in r vs) i to l m.remainders w.remainders;
+    remainders = up_more (remainder_in r ws) (remainder_in r us) (remainder_in r vs) from mid to lm lt m.remainders w.remainders;
   }
 
   pub moved_down_none : (from : ℕ) → MovedDown r ws ws from from
@@ -135,12 +149,20 @@ module _ (r : ℕ) (ws : List ℕ) where
     remainders = down_none (remainder_in r ws) from;
   }
 
-  pub moved_down_more : (us vs : List ℕ) (from i : ℕ) → from ≤ i → MovedDown r ws us from i → CopiedEntry r us vs (suc i) i → MovedDown r ws vs from (suc i)
-  moved_down_more us vs from i l m w = record {
+  pub moved_down_one : (vs : List ℕ) (i : ℕ) → CopiedEntry r ws vs (suc i) i → MovedDown r ws vs i (suc i)
+  moved_down_one vs i w = record {
+    occupied = w.occupied;
+    runends = down_one (runend_in r ws) (runend_in r vs) i w.runends;
+    offsets = w.offsets;
+    remainders = down_one (remainder_in r ws) (remainder_in r vs) i w.remainders;
+  }
+
+  pub moved_down_more : (us vs : List ℕ) (from mid to : ℕ) → from ≤ mid → mid ≤ to → MovedDown r ws us from mid → MovedDown r us vs mid to → MovedDown r ws vs from to
+  moved_down_more us vs from mid to lm lt m w = record {
     occupied = λ k. w.occupied k ∙ m.occupied k;
-    runends = down_more (runend_in r ws) (runend_in r us) (runend_in r vs) from i l m.runends w.runends;
+    runends = down_more (runend_in r ws) (runend_in r us) (runend_in r vs) from mid to lm lt m.runends w.runends;
     offsets = λ k. w.offsets k ∙ m.offsets k;
-    remainders = down_more (remainder_in r ws) (remainder_in r us) (remainder_in r vs) from i l m.remainders w.remainders;
+    remainders = down_more (remainder_in r ws) (remainder_in r us) (remainder_in r vs) from mid to lm lt m.remainders w.remainders;
   }
 
   pub changed_none : (change : ℕ → ℕ) (from : ℕ) → ChangedOffsets change r ws ws from from

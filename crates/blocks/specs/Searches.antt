@@ -1,17 +1,9 @@
 -- What a search for the k-th one of a row of bits finds, counted from 1.
 use Rattle.std.specs.Prelude.{◌≡◌, ℕ, ◌+◌, ◌*◌, ◌^◌, ◌<◌, ◌≤◌, ◌⊎◌, List, Some, None, Option}
-use Rattle.words.specs.Bits.{bit_at, ones_under}
 use Rattle.layout.specs.Load.{tally}
 use Rattle.blocks.specs.declared.Quotient.{Quotient}
 use Rattle.blocks.specs.declared.Slot.{Slot}
 use Rattle.blocks.specs.Views.{occupied_bit_in, runend_in}
-
--- p is the place of the k-th one of the 64-bit word w at or after place i
-pub record OneFrom (w i k p : ℕ) : Type 0 where
-  pub from : i ≤ p
-  pub below : p < 64
-  pub one : bit_at w p ≡ 1
-  pub nth : ones_under w p + 1 ≡ ones_under w i + k
 
 -- c is the k-th occupied quotient of block b
 pub record FoundOccupied (r : ℕ) (ws : List ℕ) (b k c : ℕ) : Type 0 where

@@ -21,6 +21,10 @@ runend_in r ws s = bit_at (slice_index ws (word_index r (s / 64) 1)) (s % 64)
 unfoldable pub offset_in : ℕ → List ℕ → ℕ → ℕ
 offset_in r ws b = slice_index ws (word_index r b 2)
 
+-- the bit at which the runend bit of slot s lies, of all bits of the words
+abbrev pub runend_place : ℕ → ℕ → ℕ
+runend_place r s = 64 * word_index r (s / 64) 1 + s % 64
+
 -- the bit at which the remainder of slot s begins, of all bits of the words
 abbrev pub place_of : ℕ → ℕ → ℕ
 place_of r s = 64 * word_index r (s / 64) 3 + s % 64 * r

@@ -3,9 +3,10 @@ ghost use Rattle.std.specs.Prelude.{◌≡◌, ℕ, ◌+◌, ◌*◌, ◌/◌, �
 ghost use Rattle.blocks.specs.Moves.{Holds, Within, MovedUp, MovedDown, CopiedEntry, ChangedOffsets, raised, lowered};
 
 use crate::Slot;
+use crate::places::{place_of, runend_place};
 use crate::reading::Blocks;
 use crate::writing::{set_offset, set_remainder, set_runend};
-use words::Width;
+use words::{Width, move_bits_down, move_bits_up};
 
 /// Whether the first `n` blocks lie wholly within the words.
 fn holds(words: &[u64], width: Width, n: u32) -> bool
@@ -26,27 +27,85 @@ fn copy_entry(words: &mut [u64], width: Width, j: Slot, i: Slot)
     set_runend(words, width, i, last);
 }
 
-/// Moves the entries up, the highest first.
+/// A runend bit as a field.
+const BIT: Width = Width { bits: 1 };
+
+/// Moves entries within one block up: the runend bits and the remainders of the slots `from` to `to - 1`.
+fn shift_up_in_block(words: &mut [u64], width: Width, from: Slot, to: Slot)
+    requires order { from.0 ≤ to.0 }
+    requires block { from.0 / 64 ≡ to.0 / 64 }
+    requires room { Within width.bits words.old to.0 }
+    ensures { MovedUp width.bits words.old words.new from.0 to.0 }
+{
+    move_bits_up(
+        words,
+        runend_place(width, from),
+        runend_place(width, to) + 1,
+        BIT,
+    );
+    move_bits_up(
+        words,
+        place_of(width, from),
+        place_of(width, to) + width.bits as usize,
+        width,
+    );
+}
+
+/// Moves the entries up, block by block, the highest first: the last entry of a block goes to the first slot of the next.
 fn shift_up(words: &mut [u64], width: Width, from: Slot, to: Slot)
     requires order { from.0 ≤ to.0 }
     requires room { Within width.bits words.old to.0 }
     ensures { MovedUp width.bits words.old words.new from.0 to.0 }
 {
-    for i in (from.0..to.0).rev() {
-        copy_entry(words, width, Slot(i), Slot(i + 1));
+    let mut end = to.0;
+    // kept: `end` goes on to the end of the block before, so no range counts it
+    while end / 64 > from.0 / 64 {
+        let first = end / 64 * 64;
+        shift_up_in_block(words, width, Slot(first), Slot(end));
+        copy_entry(words, width, Slot(first - 1), Slot(first));
+        end = first - 1;
     }
+    shift_up_in_block(words, width, from, Slot(end));
 }
 
-/// Moves the entries down, the lowest first.
-// kept beside the other: the order of the copies differs too, so that none is written over before it has moved, and one contract would have to tell two cases.
+// kept beside the others: the order of the moves differs too, so that no entry is written over before it has moved, and one contract would have to tell two cases.
+
+/// Moves entries within one block down: the runend bits and the remainders of the slots `from + 1` to `to`.
+fn shift_down_in_block(words: &mut [u64], width: Width, from: Slot, to: Slot)
+    requires order { from.0 ≤ to.0 }
+    requires block { from.0 / 64 ≡ to.0 / 64 }
+    requires room { Within width.bits words.old to.0 }
+    ensures { MovedDown width.bits words.old words.new from.0 to.0 }
+{
+    move_bits_down(
+        words,
+        runend_place(width, from),
+        runend_place(width, to) + 1,
+        BIT,
+    );
+    move_bits_down(
+        words,
+        place_of(width, from),
+        place_of(width, to) + width.bits as usize,
+        width,
+    );
+}
+
+/// Moves the entries down, block by block, the lowest first: the first entry of a block goes to the last slot of the one before.
 fn shift_down(words: &mut [u64], width: Width, from: Slot, to: Slot)
     requires order { from.0 ≤ to.0 }
     requires room { Within width.bits words.old to.0 }
     ensures { MovedDown width.bits words.old words.new from.0 to.0 }
 {
-    for i in from.0..to.0 {
-        copy_entry(words, width, Slot(i + 1), Slot(i));
+    let mut start = from.0;
+    // kept: as above
+    while start / 64 < to.0 / 64 {
+        let last = start / 64 * 64 + 63;
+        shift_down_in_block(words, width, Slot(start), Slot(last));
+        copy_entry(words, width, Slot(last + 1), Slot(last));
+        start = last + 1;
     }
+    shift_down_in_block(words, width, Slot(start), to);
 }
 
 /// Changes the offsets, block by block.

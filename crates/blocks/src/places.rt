@@ -1,6 +1,6 @@
 //! Where things stand in the words.
 ghost use Rattle.std.specs.Prelude.{◌≡◌};
-ghost use Rattle.blocks.specs.Views.{word_index, place_of};
+ghost use Rattle.blocks.specs.Views.{word_index, runend_place, place_of};
 ghost use Rattle.blocks.specs.Parts.{place_in_block};
 
 use crate::Slot;
@@ -34,6 +34,13 @@ pub(crate) fn word_of(width: Width, b: u32, part: Part) -> usize
     ensures { result ≡ word_index width.bits b (place_in_block part) }
 {
     b as usize * (width.bits as usize + 3) + part.place()
+}
+
+/// The bit at which the runend bit of slot `s` lies, of all bits of the words.
+pub(crate) fn runend_place(width: Width, s: Slot) -> usize
+    ensures { result ≡ runend_place width.bits s.0 }
+{
+    64 * word_of(width, s.0 / 64, Part::Runends) + s.0 as usize % 64
 }
 
 /// The bit at which the remainder of slot `s` begins, of all bits of the words.

@@ -2,27 +2,16 @@
 ghost use Rattle.std.specs.Prelude.{◌≡◌, ◌+◌, ◌-◌, ◌*◌, ◌/◌, ◌<◌, ◌≤◌};
 ghost use Rattle.words.specs.Bits.{ones_under};
 ghost use Rattle.layout.specs.Load.{tally};
-ghost use Rattle.blocks.specs.Views.{occupied_bit_in, runend_in};
-ghost use Rattle.blocks.specs.Searches.{NthOccupied, NthRunend, OneFrom};
+ghost use Rattle.blocks.specs.Views.{occupied_bit_in, runend_in, offset_in};
+ghost use Rattle.blocks.specs.Searches.{NthOccupied, NthRunend};
 
 use crate::places::{Part, word_of};
 use crate::reading::Blocks;
 use crate::{Quotient, Slot};
-use words::{ones_below, rank, select};
+use words::{ones_below, ones_from, rank, select};
 
 /// How many blocks have slots and quotients that a `u32` names.
 const BLOCKS: u32 = 1 << 26;
-
-/// The place of the `k`-th one of `w` at or after place `i`, counted from 1, where there are that many.
-fn one_from(w: u64, i: u32, k: u32) -> u32
-    requires { (i < 64) × ((0 < k) × (ones_under w i + k ≤ ones_under w 64)) }
-    ensures { OneFrom w i k result }
-{
-    let Some(p) = select(w, ones_below(w, i) + k) else {
-        unreachable!()
-    };
-    p
-}
 
 impl Blocks<'_> {
     /// How many of the first `i` slots of block `b` are runends.
@@ -57,14 +46,24 @@ impl Blocks<'_> {
         let mut left = k;
         for block in from.0 / 64..BLOCKS {
             let w = *self.words.get(word_of(self.width, block, Part::Runends))?;
-            let here = rank(w, 63) - ones_below(w, place);
-            if left <= here {
-                return Some(Slot(64 * block + one_from(w, place, left)));
+            let rest = ones_from(w, place);
+            if let Some(i) = select(rest, left) {
+                return Some(Slot(64 * block + i));
             }
-            left -= here;
+            left -= rank(rest, 63);
             place = 0;
         }
         None
+    }
+
+    /// How many runs of the block of `c` end below slot `c`: the runends from the block's head, its first slot and as many as its offset says
+    /// past it, up to that slot.
+    pub fn runs_ended(&self, c: Quotient) -> u32
+        ensures { result ≡ tally (runend_in self.now.width.bits self.now.words.now) c.0 - tally (runend_in self.now.width.bits self.now.words.now) (64 * (c.0 / 64) + offset_in self.now.width.bits self.now.words.now (c.0 / 64)) }
+    {
+        let b = c.0 / 64;
+        let offset = self.offset(b).min(64) as u32;
+        ones_below(ones_from(self.word(b, Part::Runends), offset), c.0 % 64)
     }
 
     /// How many occupied quotients of the block of `c` lie below `c`.
@@ -124,6 +123,7 @@ mod tests {
         let row = [0b1010, 0b10010, 0, 0, 0b100, 0b1001, 0, 0];
         let blocks = Blocks { width, words: &row };
         assert_eq!(rt; blocks.occupied_below(Quotient(3)), 1);
+        assert_eq!(rt; blocks.runs_ended(Quotient(5)), 2);
         assert_eq!(rt; blocks.nth_occupied(1, 1), Some(Quotient(66)));
         assert_eq!(rt; blocks.runends_between(Slot(2), Slot(67)), 2);
         assert_eq!(rt; blocks.nth_runend(Slot(2), 3), Some(Slot(67)));

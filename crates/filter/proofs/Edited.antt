@@ -63,10 +63,6 @@ module _ (r blocks : ℕ) (ws : List ℕ) (sound : Sound r blocks ws) where
       sound.shows.remainders (start m c + i) ∙ (layout_law r (held_in r blocks ws) sound.rising).holds c (start m c + i) (omega arith) (omega (arith, load_step m c))
       ∙ ap (λ x. get_or (remainders r (held_in r blocks ws) c) x 0) z
 
-  -- a quotient that has entries lies below the slots
-  pub run_below : (c : ℕ) → 0 < many r (held_in r blocks ws) c → c < 64 * blocks
-  run_below c l = omega (arith, (within r blocks ws sound).last c l)
-
   -- ---- whether a fingerprint is there
 
   -- in a run whose remainders rise, one that is not where it would be is nowhere

@@ -1,20 +1,20 @@
--- Runs in words that hold a layout: where they start and stop, from a block's head alone.
-use Rattle.std.proofs.Common.{◌≡◌, ℕ, zero, suc, ◌+◌, ◌-◌, ◌*◌, ◌/◌, ◌%◌, ◌<◌, ◌≤◌, max, Bool, true, false, eqb, ltb, List, sym, refl, ap, ◌∙◌, ⊎_elim, arith}
+-- Runs in words that hold a layout: where they start and stop, by the runends from their quotients on.
+use Rattle.std.proofs.Common.{◌≡◌, ℕ, zero, suc, ◌+◌, ◌-◌, ◌*◌, ◌/◌, ◌%◌, ◌^◌, ◌<◌, ◌≤◌, max, Bool, true, false, eqb, ltb, List, sym, refl, ap, ◌∙◌, subst, ⊎_elim, zero-add, arith}
 use mathlib.Core.Path.{fun_ext}
 use mir.Val.{bool_byte}
 use Rattle.std.proofs.lemmas.Bool.{cases_lt}
 use Rattle.layout.specs.Rule.{bit, many, laid, offset_at}
-use Rattle.layout.specs.Load.{load, start, busy, tally, Ends}
+use Rattle.layout.specs.Load.{load, start, busy, tally, FirstFree, FirstIdle, Ends}
 use Rattle.layout.specs.Laws.{Within}
 use Rattle.layout.proofs.Bounds.{within_law}
 use Rattle.layout.proofs.Bridge.{layout_law, offset_law}
-use Rattle.layout.proofs.Heads.{start_none, start_some, enough}
-use Rattle.layout.proofs.Loads.{jump_law}
-use Rattle.layout.proofs.Ranks.{tally_step, tally_mono}
-use Rattle.layout.proofs.Stops.{block_stop_law}
+use Rattle.layout.proofs.Heads.{start_here, start_after, stop_after}
+use Rattle.layout.proofs.Loads.{load_step, start_mono, jump_law}
+use Rattle.layout.proofs.Moves.{bit_pos, bit_zero}
+use Rattle.layout.proofs.Ranks.{tally_step, tally_mono, rank_is}
 use Rattle.blocks.specs.Views.{occupied_bit_in, runend_in}
 use Rattle.filter.specs.Meaning.{held_in, Sound}
-use Rattle.filter.specs.Locating.{head_in, AfterRuns}
+use Rattle.filter.specs.Locating.{head_in, RunsAhead, AfterRunends}
 
 bit_two : (b : Bool) → bit b < 2
 bit_two true = omega arith
@@ -51,54 +51,9 @@ module _ (r blocks : ℕ) (ws : List ℕ) (sound : Sound r blocks ws) where
   pub end_bound : (e : ℕ) → runend_in r ws e ≡ 1 → e < 64 * blocks
   end_bound e one = ⊎_elim (λ (l : e < 64 * blocks). l) (λ (l : 64 * blocks ≤ e). absurd (omega (arith, one, sound.shows.runends e, within.end e l))) (cases_lt e (64 * blocks))
 
-  pub start_found : (c k s : ℕ) → k ≡ tally (occupied_bit_in r ws) c - tally (occupied_bit_in r ws) (64 * (c / 64)) → AfterRuns r ws c k s → s ≡ start count c
-  start_found c k s e after =
-      let x : ℕ = 64 * (c / 64) in
-      let le : x ≤ c = omega arith in
-      let mono = tally_mono (busy count) x c le in
-      ⊎_elim
-      (λ (l : 0 < k).
-      let w = after.some l in
-      let nth = ap (tally (runend_in r ws)) (head_is (c / 64)) in
-      let one : suc w.0 ≡ w.0 + 1 = omega arith in
-      w.2 ∙ sym (start_some count (runend_in r ws) ends x c w.0 le (omega (arith, tally_is c, tally_is x)) w.1.one
-      (ap (tally (runend_in r ws)) one ∙ omega (arith, w.1.nth, nth, tally_is c, tally_is x))))
-      (λ (l : k ≤ 0). after.none (omega arith) ∙ ap (max c) (head_is (c / 64)) ∙ sym (start_none count (runend_in r ws) ends x c le (omega (arith, tally_is c, tally_is x))))
-      (cases_lt 0 k)
-
-  pub stop_found : (c k s : ℕ) → k ≡ tally (occupied_bit_in r ws) (suc c) - tally (occupied_bit_in r ws) (64 * (c / 64)) → AfterRuns r ws c k s → s ≡ start count c + count c
-  stop_found c k s e after =
-      let x : ℕ = 64 * (c / 64) in
-      let le : x ≤ c = omega arith in
-      let mono = tally_mono (busy count) x (suc c) (omega arith) in
-      let law = block_stop_law count (runend_in r ws) ends x c le in
-      ⊎_elim
-      (λ (l : 0 < k).
-      let w = after.some l in
-      let nth = ap (tally (runend_in r ws)) (head_is (c / 64)) in
-      let one : suc w.0 ≡ w.0 + 1 = omega arith in
-      let way = law.1 w.0 w.1.one (ap (tally (runend_in r ws)) one ∙ omega (arith, w.1.nth, nth, tally_is (suc c), tally_is x)) in
-      ⊎_elim (λ v. omega (arith, w.2, v.0, v.1)) (λ v. omega (arith, w.2, v.0, v.1)) way)
-      (λ (l : k ≤ 0). after.none (omega arith) ∙ ap (max c) (head_is (c / 64)) ∙ sym (law.0 (omega (arith, tally_is (suc c), tally_is x))))
-      (cases_lt 0 k)
-
-  -- the runends that are looked for are there
-  pub runends_enough : (c : ℕ) → tally (runend_in r ws) (start count (suc c)) ≡ tally (runend_in r ws) (head_in r ws (c / 64)) + (tally (occupied_bit_in r ws) (suc c) - tally (occupied_bit_in r ws) (64 * (c / 64)))
-  runends_enough c =
-      let x : ℕ = 64 * (c / 64) in
-      omega (arith, enough count (runend_in r ws) ends x (suc c) (omega arith), ap (tally (runend_in r ws)) (head_is (c / 64)), tally_is (suc c), tally_is x)
-
   flag_is : (b : Bool) → bool_byte (eqb (bit b) 1) ≡ bit b
   flag_is true = refl
   flag_is false = refl
-
-  -- those up to c are those below it, and c itself where it is occupied
-  pub upto_is : (c n f : ℕ) → n ≡ tally (occupied_bit_in r ws) c - tally (occupied_bit_in r ws) (64 * (c / 64)) → f ≡ bool_byte (eqb (occupied_bit_in r ws c) 1)
-      → n + f ≡ tally (occupied_bit_in r ws) (suc c) - tally (occupied_bit_in r ws) (64 * (c / 64))
-  upto_is c n f e g =
-      let here = sound.shows.occupied c in
-      let flag : f ≡ occupied_bit_in r ws c = g ∙ ap (λ x. bool_byte (eqb x 1)) here ∙ flag_is (ltb 0 (count c)) ∙ sym here in
-      omega (arith, e, flag, tally_step (occupied_bit_in r ws) c, tally_mono (occupied_bit_in r ws) (64 * (c / 64)) c (omega arith))
 
   few_ones : (a n : ℕ) → tally (occupied_bit_in r ws) (a + n) ≤ tally (occupied_bit_in r ws) a + n
   few_ones a zero = let z : a + 0 ≡ a = omega arith in omega (arith, ap (tally (occupied_bit_in r ws)) z)
@@ -106,11 +61,95 @@ module _ (r blocks : ℕ) (ws : List ℕ) (sound : Sound r blocks ws) where
       let z : a + suc n ≡ suc (a + n) = omega arith in
       omega (arith, ap (tally (occupied_bit_in r ws)) z, tally_step (occupied_bit_in r ws) (a + n), few_ones a n, sound.shows.occupied (a + n), bit_two (ltb 0 (count (a + n))))
 
-  -- they are few
+  -- few of them are occupied quotients of one block
   pub upto_few : (c : ℕ) → tally (occupied_bit_in r ws) (suc c) - tally (occupied_bit_in r ws) (64 * (c / 64)) ≤ 64
   upto_few c =
       let z : 64 * (c / 64) + (c % 64 + 1) ≡ suc c = omega arith in
       omega (arith, few_ones (64 * (c / 64)) (c % 64 + 1), ap (tally (occupied_bit_in r ws)) z)
+
+  pub below_few : (c : ℕ) → tally (occupied_bit_in r ws) c - tally (occupied_bit_in r ws) (64 * (c / 64)) ≤ 64
+  below_few c = omega (arith, upto_few c, tally_mono (occupied_bit_in r ws) c (suc c) (omega arith))
+
+  -- what lies ahead of the run of c, from c on or from the head of its block: k occupied quotients below it in the block, of whose runs n end below it
+  module _ (c k n x : ℕ) (below : k ≡ tally (occupied_bit_in r ws) c - tally (occupied_bit_in r ws) (64 * (c / 64)))
+      (ended : n ≡ tally (runend_in r ws) c - tally (runend_in r ws) (head_in r ws (c / 64))) (here : x ≡ max c (head_in r ws (c / 64))) where
+    up : x ≤ start count c
+    up = omega (arith, here, head_is (c / 64), start_mono count (64 * (c / 64)) c (omega arith))
+
+    -- no fewer than n
+    parts : n + tally (runend_in r ws) (start count c) ≡ tally (runend_in r ws) x + k
+    parts =
+        let h : ℕ = head_in r ws (c / 64) in
+        let mono = tally_mono (busy count) (64 * (c / 64)) c (omega arith) in
+        let mine = rank_is count (runend_in r ws) ends c in
+        let heads = rank_is count (runend_in r ws) ends (64 * (c / 64)) in
+        let at = ap (tally (runend_in r ws)) (head_is (c / 64)) in
+        ⊎_elim
+        (λ (l : c < h). let z : x ≡ h = omega (arith, here) in omega (arith, below, ended, mono, mine, heads, at, tally_is c, tally_is (64 * (c / 64)), tally_mono (runend_in r ws) c h (omega arith), ap (tally (runend_in r ws)) z))
+        (λ (l : h ≤ c). let z : x ≡ c = omega (arith, here) in omega (arith, below, ended, mono, mine, heads, at, tally_is c, tally_is (64 * (c / 64)), tally_mono (runend_in r ws) h c l, ap (tally (runend_in r ws)) z))
+        (cases_lt c h)
+
+    pub ahead_enough : n ≤ k
+    ahead_enough = omega (arith, parts, tally_mono (runend_in r ws) x (start count c) up)
+
+    pub ahead_found : (v : ℕ) → v ≡ k - n → RunsAhead count (runend_in r ws) c x v
+    ahead_found v e = record { from = omega (arith, here); upto = up; runs = omega (arith, parts, ahead_enough, e) }
+
+  -- the run starts after those ahead of it
+  pub start_found : (c x k s : ℕ) → RunsAhead count (runend_in r ws) c x k → AfterRunends r ws x k s → s ≡ start count c
+  start_found c x k s ahead after =
+      ⊎_elim
+      (λ (l : 0 < k).
+      let w = after.some l in
+      let one : suc w.0 ≡ w.0 + 1 = omega arith in
+      w.2 ∙ start_after count (runend_in r ws) ends c x ahead.from ahead.upto w.0 (omega (arith, ahead.runs)) w.1.one
+      (ap (tally (runend_in r ws)) one ∙ w.1.nth ∙ ahead.runs))
+      (λ (l : k ≤ 0). after.none (omega arith) ∙ start_here count (runend_in r ws) ends c x ahead.from ahead.upto (omega (arith, ahead.runs)))
+      (cases_lt 0 k)
+
+  own_is : (c f : ℕ) → f ≡ bool_byte (eqb (occupied_bit_in r ws c) 1) → f ≡ busy count c
+  own_is c f e = e ∙ ap (λ x. bool_byte (eqb x 1)) (sound.shows.occupied c) ∙ flag_is (ltb 0 (count c))
+
+  -- and stops after its own runend, if it has one
+  pub stop_found : (c x k f s : ℕ) → RunsAhead count (runend_in r ws) c x k → f ≡ bool_byte (eqb (occupied_bit_in r ws c) 1) → AfterRunends r ws x (k + f) s
+      → s ≡ start count c + count c
+  stop_found c x k f s ahead own after =
+      ⊎_elim
+      (λ (l : 0 < count c).
+      let some : f ≡ 1 = own_is c f own ∙ bit_pos (count c) l in
+      let w = after.some (omega arith) in
+      let one : suc w.0 ≡ w.0 + 1 = omega arith in
+      w.2 ∙ stop_after count (runend_in r ws) ends c w.0 l w.1.one (ap (tally (runend_in r ws)) one ∙ omega (arith, w.1.nth, ahead.runs, some)))
+      (λ (l : count c ≤ 0).
+      let none : f ≡ 0 = own_is c f own ∙ bit_zero (count c) (omega arith) in
+      let same : k + f ≡ k = omega arith in
+      omega (arith, start_found c x k s ahead (subst (λ y. AfterRunends r ws x y s) same after)))
+      (cases_lt 0 (count c))
+
+  -- from the start of a run on, nothing lies ahead of it
+  pub none_ahead : (c x : ℕ) → x ≡ start count c → RunsAhead count (runend_in r ws) c x 0
+  none_ahead c x e = record { from = omega arith; upto = omega arith; runs = omega (arith, ap (tally (runend_in r ws)) e) }
+
+  pub stop_next : (c x f s : ℕ) → x ≡ start count c → f ≡ bool_byte (eqb (occupied_bit_in r ws c) 1) → AfterRunends r ws x f s → s ≡ start count c + count c
+  stop_next c x f s e own after = stop_found c x 0 f s (none_ahead c x e) own (subst (λ y. AfterRunends r ws x y s) (sym (zero-add f)) after)
+
+  -- the runends that are looked for are there
+  module _ (c x k : ℕ) (few : 64 * blocks ≤ 2 ^ 32) (fits : c < 2 ^ 32) (ahead : RunsAhead count (runend_in r ws) c x k) where
+    pub own_there : (f : ℕ) → f ≡ bool_byte (eqb (occupied_bit_in r ws c) 1) → tally (runend_in r ws) x + (k + f) ≤ tally (runend_in r ws) (2 ^ 32)
+    own_there f own =
+        omega (
+          arith,
+          ahead.runs,
+          own_is c f own,
+          rank_is count (runend_in r ws) ends c,
+          rank_is count (runend_in r ws) ends (suc c),
+          tally_step (busy count) c,
+          tally_mono (runend_in r ws) (start count (suc c)) (2 ^ 32) (omega (arith, start_bound (suc c))),
+        )
+
+    pub ahead_there : tally (runend_in r ws) x + k ≤ tally (runend_in r ws) (2 ^ 32)
+    ahead_there =
+        omega (arith, ahead.runs, tally_mono (runend_in r ws) (start count c) (2 ^ 32) (omega (arith, start_bound c)))
 
   -- a slot from which no run is left over is free, and all up to the end of the runs are used
   pub used_upto : (x y : ℕ) → x ≤ y → y < start count x + count x → 0 < load count y + count y
@@ -118,6 +157,26 @@ module _ (r blocks : ℕ) (ws : List ℕ) (sound : Sound r blocks ws) where
 
   pub waits_upto : (x y : ℕ) → x ≤ y → y < start count x → 0 < load count y
   waits_upto x y l g = (jump_law count x y l).1 g
+
+  -- past the run of c the first free slot is that from c on, and the first slot at which nothing waits is that after c
+  pub free_past_run : (c u : ℕ) → FirstFree count (start count c + count c) u → FirstFree count c u
+  free_past_run c u f = record {
+    from = omega (arith, f.from);
+    free = f.free;
+    used = λ x lo hi. ⊎_elim (λ (l : x < start count c + count c). used_upto c x lo l) (λ (l : start count c + count c ≤ x). f.used x l hi) (cases_lt x (start count c + count c));
+  }
+
+  pub full_past_run : (c : ℕ) → ((x : ℕ) → start count c + count c ≤ x → x < 64 * blocks → 0 < load count x + count x)
+      → (x : ℕ) → c ≤ x → x < 64 * blocks → 0 < load count x + count x
+  full_past_run c f x lo hi = ⊎_elim (λ (l : x < start count c + count c). used_upto c x lo l) (λ (l : start count c + count c ≤ x). f x l hi) (cases_lt x (start count c + count c))
+
+  pub idle_past_run : (c t : ℕ) → 0 < count c → FirstIdle count ((start count c + count c) - 1) t → FirstIdle count c t
+  idle_past_run c t pos f = record {
+    from = omega (arith, f.from);
+    idle = f.idle;
+    waits = λ x lo hi. ⊎_elim (λ (l : x < start count c + count c). waits_upto (suc c) x lo (omega (arith, load_step count c)))
+        (λ (l : start count c + count c ≤ x). f.waits x (omega arith) hi) (cases_lt x (start count c + count c));
+  }
 
   pub idle_at_end : load count (64 * blocks) ≡ 0
   idle_at_end = load_is (64 * blocks) ∙ within.past (64 * blocks) (omega arith)

@@ -2,7 +2,7 @@
 use Rattle.std.proofs.Common.{◌≡◌, ℕ, ◌+◌, ◌-◌, ◌*◌, ◌<◌, ltb, sym, ap, ◌∙◌, subst, arith}
 use Rattle.std.proofs.lemmas.Bool.{cond-true, lt-ltb}
 use Rattle.layout.specs.Rule.{quotient, remainder, laid, layout, occupied_at, runend_at, many}
-use Rattle.layout.specs.Load.{start, rank, Select}
+use Rattle.layout.specs.Load.{start, rank, FirstIdle, Select}
 use Rattle.layout.specs.Laws.{count}
 use Rattle.layout.proofs.Bridge.{layout_law}
 use Rattle.layout.proofs.Ranks.{select_law}
@@ -11,7 +11,8 @@ use Rattle.filter.specs.Meaning.{Sound}
 use Rattle.filter.specs.Locating.{Placed}
 use Rattle.filter.specs.Slots.{InRun}
 use Rattle.filter.proofs.Held.{sound_words}
-use Rattle.filter.proofs.Edited.{rem_at, none_there, run_below, one_there}
+use Rattle.filter.proofs.Edited.{rem_at, none_there, one_there}
+use Rattle.filter.proofs.Locatings.{within, load_is, idle_past_run}
 use Rattle.filter.specs.declared.laid.Layout.{Layout}
 use Rattle.filter.specs.Layouts.{bits_of, words_in, entries, many_of}
 
@@ -64,7 +65,26 @@ pub placed_there : (l : Layout) (p c from to s : ℕ) → Placed (bits_of l) (en
 placed_there l p c from to s w =
     one_there (bits_of l) l.count (words_in l) (sound_of l) p (s - from) (omega (arith, w.starts, w.in_run.from, w.in_run.below)) w.found
 
--- and its quotient lies below the slots
-pub placed_below : (l : Layout) (p c from to s : ℕ) → Placed (bits_of l) (entries l) p c from to s → c < 64 * l.count
-placed_below l p c from to s w =
-    omega (arith, w.its_quotient, run_below (bits_of l) l.count (words_in l) (sound_of l) (quotient (bits_of l) p) (omega (arith, w.in_run.from, w.in_run.below)))
+-- the last slot of its run is one of the slots
+pub placed_last : (l : Layout) (p c from to s : ℕ) → Placed (bits_of l) (entries l) p c from to s → to - 1 < 64 * l.count
+placed_last l p c from to s w =
+    let q : ℕ = quotient (bits_of l) p in
+    let m = many_of l in
+    omega (
+      arith,
+      w.starts,
+      w.stops,
+      w.in_run.from,
+      w.in_run.below,
+      (within (bits_of l) l.count (words_in l) (sound_of l)).last q (omega (arith, w.in_run.from, w.in_run.below)),
+      load_is (bits_of l) l.count (words_in l) (sound_of l) q,
+    )
+
+-- and the first slot after that at which nothing waits is that after its quotient
+pub idle_past_placed : (l : Layout) (p c from to s t : ℕ) → Placed (bits_of l) (entries l) p c from to s → FirstIdle (many_of l) (to - 1) t
+    → FirstIdle (many_of l) (quotient (bits_of l) p) t
+idle_past_placed l p c from to s t w f =
+    let q : ℕ = quotient (bits_of l) p in
+    let m = many_of l in
+    idle_past_run (bits_of l) l.count (words_in l) (sound_of l) q t (omega (arith, w.in_run.from, w.in_run.below))
+    (subst (λ y. FirstIdle m y t) (ap (λ y. y - 1) (w.stops ∙ ap (λ y. y + m q) w.starts)) f)

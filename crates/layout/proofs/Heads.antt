@@ -1,41 +1,42 @@
--- Where a run starts and stops, from a block's head: the runs before it end at the runends that are counted from the head on.
-use Rattle.std.proofs.Common.{◌≡◌, ℕ, zero, suc, ◌+◌, ◌-◌, ◌<◌, ◌≤◌, max, ◌≢◌, ap, ⊎_elim, arith}
-use Rattle.std.proofs.lemmas.Bool.{cases_eq, cases_order}
-use Rattle.layout.specs.Load.{load, start, busy, tally, Ends}
-use Rattle.layout.proofs.Loads.{load_step}
-use Rattle.layout.proofs.Ranks.{tally_step, tally_mono, rank_is, last_one, bit_ne}
-use Rattle.layout.proofs.Stops.{block_stop_law}
+-- Where a run starts and stops, by the ends of runs that are counted from some slot on: its own, or a later one up to its start.
+use Rattle.std.proofs.Common.{◌≡◌, ℕ, suc, ◌+◌, ◌-◌, ◌<◌, ◌≤◌, ap, ⊎_elim, arith}
+use Rattle.std.proofs.lemmas.Bool.{cases_lt}
+use Rattle.layout.specs.Load.{start, busy, tally, rank, Select, Ends}
+use Rattle.layout.proofs.Moves.{bit_pos}
+use Rattle.layout.proofs.Ranks.{tally_step, tally_mono, rank_is, selected}
+use Rattle.layout.proofs.Rooms.{select_one_law}
+use Rattle.layout.proofs.Stops.{before_law}
 
 module _ (m end : ℕ → ℕ) (ends : Ends m end) where
-  -- the entries of c start after the runs of the k busy places from x up to c: after the k-th runend from the start of x on, or at the start of x where there are none
-  pub start_none : (x c : ℕ) → x ≤ c → tally (busy m) c ≡ tally (busy m) x → start m c ≡ max c (start m x)
-  start_none x zero l e = let z : x ≡ 0 = omega arith in omega (arith, ap (load m) z)
-  start_none x (suc c) l e =
-      ⊎_elim (λ (z : x ≡ suc c). omega (arith, ap (load m) z))
-      (λ (z : x ≢ suc c).
-      let stop = (block_stop_law m end ends x c (omega arith)).0 e in
-      omega (arith, load_step m c, stop))
-      (cases_eq x (suc c))
+  -- x lies from c up to the start of c
+  module _ (c x : ℕ) (lo : c ≤ x) (hi : x ≤ start m c) where
+    -- where no run ends from x up to that start, it is x itself
+    pub start_here : tally end x ≡ tally end (start m c) → x ≡ start m c
+    start_here same =
+        ⊎_elim
+        (λ (l : x < start m c).
+        let last : ℕ = start m c - 1 in
+        let z : suc last ≡ start m c = omega arith in
+        absurd (omega (arith, same, before_law m end ends c (omega arith), ap (tally end) z, tally_step end last, tally_mono end x last (omega arith))))
+        (λ (l : start m c ≤ x). omega arith) (cases_lt x (start m c))
 
-  pub start_some : (x c e : ℕ) → x ≤ c → tally (busy m) x < tally (busy m) c → end e ≡ 1
-      → tally end (suc e) ≡ tally end (start m x) + (tally (busy m) c - tally (busy m) x) → start m c ≡ max c (suc e)
-  start_some x zero e l k one nth = let z : x ≡ 0 = omega arith in absurd (omega (arith, ap (tally (busy m)) z))
-  start_some x (suc c) e l k one nth =
-      let below : x ≢ suc c = λ z. omega (arith, ap (tally (busy m)) z) in
-      ⊎_elim (λ w. omega (arith, load_step m c, w.0, w.1)) (λ w. omega (arith, load_step m c, w.0, w.1))
-      ((block_stop_law m end ends x c (omega arith)).1 e one nth)
+    -- else it is the slot after the last of those that do
+    pub start_after : (e : ℕ) → tally end x < tally end (start m c) → end e ≡ 1 → tally end (suc e) ≡ tally end (start m c) → suc e ≡ start m c
+    start_after e some one nth =
+        ⊎_elim
+        (λ (l : x < start m c).
+        let last : ℕ = start m c - 1 in
+        let z : suc last ≡ start m c = omega arith in
+        let here : Select end (tally end (start m c)) last = record { one = before_law m end ends c (omega arith); nth = ap (tally end) z } in
+        let its : Select end (tally end (start m c)) e = record { one = one; nth = nth } in
+        omega (arith, select_one_law end (tally end (start m c)) e last its here))
+        (λ (l : start m c ≤ x). let z : x ≡ start m c = omega arith in absurd (omega (arith, some, ap (tally end) z)))
+        (cases_lt x (start m c))
 
-  -- that runend is there
-  pub enough : (x c : ℕ) → x ≤ c → tally end (start m c) ≡ tally end (start m x) + (tally (busy m) c - tally (busy m) x)
-  enough x c l = omega (arith, rank_is m end ends c, rank_is m end ends x, tally_mono (busy m) x c l)
-
-  -- the first runend from the start of a busy c on is the end of its run
-  pub first_end : (c e : ℕ) → 0 < m c → start m c ≤ e → end e ≡ 1 → tally end (suc e) ≡ tally end (start m c) + 1 → suc e ≡ start m c + m c
-  first_end c e pos lo one nth =
+  -- the run of a busy c stops after the end that comes next from its start on
+  pub stop_after : (c e : ℕ) → 0 < m c → end e ≡ 1 → tally end (suc e) ≡ tally end (start m c) + 1 → suc e ≡ start m c + m c
+  stop_after c e pos one nth =
       let last : ℕ = (start m c + m c) - 1 in
-      let here : end last ≡ 1 = last_one m end ends c pos in
-      ⊎_elim (λ (z : e ≡ last). omega arith)
-      (λ o. ⊎_elim
-      (λ (l : e < last). absurd (omega (arith, one, ends c e lo (omega (arith, load_step m c)), bit_ne (suc e) (start m c + m c) (λ z. omega arith))))
-      (λ (l : last < e). absurd (omega (arith, here, one, nth, tally_step end e, tally_step end last, tally_mono end (suc last) e l, tally_mono end (start m c) last (omega arith)))) o)
-      (cases_order e last)
+      let n : ℕ = rank (busy m) c in
+      let its : Select end n e = record { one = one; nth = omega (arith, nth, rank_is m end ends c, tally_step (busy m) c, bit_pos (m c) pos) } in
+      omega (arith, pos, select_one_law end n e last its (selected m end ends c pos))

@@ -4,6 +4,7 @@ use Rattle.std.proofs.lemmas.Bool.{cond_both, eqb-true, eqb-false, cases_lt}
 use native.Mathlib.Nat.{mod-one, div-eq_of_lt}
 use lib.Pow.{high, low, field as field-mod, mod-mod-pow, mod-pow-add, ones_split, split, shr_mod, ones_lt}
 use Rattle.std.proofs.lemmas.Nat.{shl_below, shl_whole, one_shl}
+use Rattle.std.proofs.lemmas.Nat.Bits.{ones_shr}
 use lib.Bits.{bit_and, bit_or, and_block, or_block, and_mask, or_shifted, or_zero_r, or_lt, and_le_l}
 use Rattle.words.specs.Bits.{field, bit_at, bits}
 
@@ -79,6 +80,11 @@ pub bits_one : (m n k : ℕ) → m < 2 ^ k → n < 2 ^ k → ((i : ℕ) → i < 
 bits_one m n k hm hn h =
     sym (bits_of m k ∙ mod-eq_of_lt hm) ∙ bits_ext (bit_at m) (bit_at n) k h ∙ bits_of n k ∙ mod-eq_of_lt hn
 
+-- fields with the same bits are one
+pub field_by_bits : (m n p q k : ℕ) → ((i : ℕ) → i < k → bit_at m (p + i) ≡ bit_at n (q + i)) → field m p k ≡ field n q k
+field_by_bits m n p q k h =
+    bits_one (field m p k) (field n q k) k (field_lt m p k) (field_lt n q k) (λ i l. bit_field m p k i l ∙ h i l ∙ sym (bit_field n q k i l))
+
 -- ---- writes
 
 -- n with v in its k bits from place p on: what stands above, then v, then what stands below
@@ -116,6 +122,13 @@ bit_put n i v k h =
     cond_both (eqb k i) v (bit_at n k) (λ x. bit_at (put n i 1 v) k ≡ x)
     (λ e. ap (bit_at (put n i 1 v)) (eqb-true k i e) ∙ field_put n i 1 v h)
     (λ e. field_put_other n i 1 v k 1 h (apart k i (eqb-false k i e)))
+
+-- the bits that a write of several puts, and the others
+pub bit_put_in : (n p k v i : ℕ) → v < 2 ^ k → i < k → bit_at (put n p k v) (p + i) ≡ bit_at v i
+bit_put_in n p k v i h l = sym (bit_field (put n p k v) p k i l) ∙ ap (λ x. bit_at x i) (field_put n p k v h)
+
+pub bit_put_out : (n p k v i : ℕ) → v < 2 ^ k → (i < p) ⊎ (p + k ≤ i) → bit_at (put n p k v) i ≡ bit_at n i
+bit_put_out n p k v i h o = field_put_other n p k v i 1 h (⊎_elim (λ g. inl (omega arith)) (λ g. inr g) o)
 
 -- a write of what is there
 put_same : (n p k : ℕ) → put n p k (field n p k) ≡ n
@@ -161,13 +174,28 @@ put_word w n p k v h l hv =
     subst (λ x. n < 2 ^ x → bit_or (bit_and n ((2 ^ x - 1) - (2 ^ k - 1) * 2 ^ p)) (v * 2 ^ p) ≡ put n p k v) e
     (λ g. put_masked n (w - (k + p)) k p v g hv) h
 
--- and with the shifts of code: `(n & !(((1 << k) - 1) << p)) | (v << p)`
+-- the same where the shifts of code cut off what passes the word
+put_shifted : (w n p k v : ℕ) → n < 2 ^ w → k + p ≤ w → v < 2 ^ k
+    → bit_or (bit_and n ((2 ^ w - 1) - ((2 ^ k - 1) * 2 ^ p) % 2 ^ w)) ((v * 2 ^ p) % 2 ^ w) ≡ put n p k v
+put_shifted w n p k v h l hv =
+    ap₂ (λ x y. bit_or (bit_and n ((2 ^ w - 1) - x)) y) (shl_whole (2 ^ k - 1) k p w (ones_lt k) l) (shl_whole v k p w hv l)
+    ∙ put_word w n p k v h l hv
+
+-- `(n & !(((1 << k) - 1) << p)) | (v << p)`
 pub put_code : (w n p k v : ℕ) → n < 2 ^ w → k < w → k + p ≤ w → v < 2 ^ k
     → bit_or (bit_and n ((2 ^ w - 1) - ((((1 * 2 ^ k) % 2 ^ w) - 1) * 2 ^ p) % 2 ^ w)) ((v * 2 ^ p) % 2 ^ w) ≡ put n p k v
 put_code w n p k v h s l hv =
-    ap₂ (λ x y. bit_or (bit_and n ((2 ^ w - 1) - x)) y)
-    (ap (λ x. ((x - 1) * 2 ^ p) % 2 ^ w) (one_shl k w s) ∙ shl_whole (2 ^ k - 1) k p w (ones_lt k) l) (shl_whole v k p w hv l)
-    ∙ put_word w n p k v h l hv
+    ap (λ x. bit_or (bit_and n ((2 ^ w - 1) - ((x - 1) * 2 ^ p) % 2 ^ w)) ((v * 2 ^ p) % 2 ^ w)) (one_shl k w s) ∙ put_shifted w n p k v h l hv
+
+-- `(n & !(mask << p)) | ((v & mask) << p)` with the mask `MAX >> (w - k)`, where the field may fill the word
+pub put_low : (w n p k v : ℕ) → n < 2 ^ w → k + p ≤ w
+    → bit_or (bit_and n ((2 ^ w - 1) - ((2 ^ w - 1) / 2 ^ (w - k) * 2 ^ p) % 2 ^ w)) ((bit_and v ((2 ^ w - 1) / 2 ^ (w - k)) * 2 ^ p) % 2 ^ w) ≡ put n p k (v % 2 ^ k)
+put_low w n p k v h l =
+    let e : w - (w - k) ≡ k = omega arith in
+    ap (λ x. bit_or (bit_and n ((2 ^ w - 1) - (x * 2 ^ p) % 2 ^ w)) ((bit_and v x * 2 ^ p) % 2 ^ w))
+    (ones_shr w (w - k) (omega arith) ∙ ap (λ x. 2 ^ x - 1) e)
+    ∙ ap (λ x. bit_or (bit_and n ((2 ^ w - 1) - ((2 ^ k - 1) * 2 ^ p) % 2 ^ w)) ((x * 2 ^ p) % 2 ^ w)) (and_mask v k)
+    ∙ put_shifted w n p k (v % 2 ^ k) h l (mod-lt v (pow_pos k))
 
 pub put_lt : (w n p k v : ℕ) → n < 2 ^ w → k + p ≤ w → v < 2 ^ k → put n p k v < 2 ^ w
 put_lt w n p k v h l hv =

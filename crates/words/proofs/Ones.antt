@@ -1,5 +1,5 @@
 -- Counts of ones below a place: by the library's `ones`, and past the lowest one of a word.
-use Rattle.std.proofs.Common.{◌≡◌, ℕ, zero, suc, ◌+◌, ◌-◌, ◌*◌, ◌/◌, ◌%◌, ◌^◌, ◌<◌, ◌≤◌, sym, refl, ap, ◌∙◌, ap₂, ⊎_elim, add-zero, mod-lt, mul_assoc, add-mul, add_comm, one-mul, pow-suc, div-add-mod', zero-add, mul-one, add-one, one-add, arith, pow_pos, pow-add}
+use Rattle.std.proofs.Common.{◌≡◌, ℕ, zero, suc, ◌+◌, ◌-◌, ◌*◌, ◌/◌, ◌%◌, ◌^◌, ◌<◌, ◌≤◌, sym, refl, ap, ◌∙◌, ap₂, ⊎_elim, add-zero, mod-lt, mod-eq_of_lt, lt_of_lt_of_le, mul_assoc, add-mul, add_comm, one-mul, pow-suc, div-add-mod', zero-add, mul-one, add-one, one-add, arith, pow_pos, pow_mono, pow-add}
 use native.Mathlib.Nat.{mod-one, mul-mod_left, zero-mod}
 use lib.Pow.{mod-pow-add, high, low, ones_lt}
 use lib.Bits.{bit_and, and_block, and_shifted, and_self}
@@ -65,12 +65,48 @@ multiple a t n l =
 ones_pow : (t : ℕ) → ones (2 ^ t) ≡ 1
 ones_pow t = ap ones (sym (add-zero (1 * 2 ^ t) ∙ one-mul (2 ^ t))) ∙ ones_cat t 1 0 (pow_pos t) ∙ ap₂ ◌+◌ (ones_digit 1 (omega arith)) (ones_digit 0 (omega arith))
 
--- the ones below a place past t + 1, of a number with s in its bits 0 to t
-past : (h t s m : ℕ) → s < 2 ^ (1 + t) → ones_under (h * 2 ^ (1 + t) + s) (m + (1 + t)) ≡ ones (h % 2 ^ m) + ones s
-past h t s m l =
-    below_is (h * 2 ^ (1 + t) + s) (m + (1 + t))
-    ∙ ap ones (mod-pow-add (h * 2 ^ (1 + t) + s) m (1 + t) ∙ ap₂ (λ a b. a % 2 ^ m * 2 ^ (1 + t) + b) (high h (1 + t) l) (low h (1 + t) l))
-    ∙ ones_cat (1 + t) (h % 2 ^ m) s l
+-- the ones below a place past i, of a number with s in its bits below i
+past : (h i s m : ℕ) → s < 2 ^ i → ones_under (h * 2 ^ i + s) (m + i) ≡ ones (h % 2 ^ m) + ones s
+past h i s m l =
+    below_is (h * 2 ^ i + s) (m + i)
+    ∙ ap ones (mod-pow-add (h * 2 ^ i + s) m i ∙ ap₂ (λ a b. a % 2 ^ m * 2 ^ i + b) (high h i l) (low h i l))
+    ∙ ones_cat i (h % 2 ^ m) s l
+
+below_mono : (n i j : ℕ) → i ≤ j → ones_under n i ≤ ones_under n j
+below_mono n i zero l = let e : i ≡ 0 = omega arith in omega (arith, ap (ones_under n) e)
+below_mono n i (suc j) l =
+    ⊎_elim (λ (g : i < suc j). omega (arith, ap (ones_under n) (sym (add-one j)), (below_more n j).0, below_mono n i j (omega arith)))
+    (λ (g : suc j ≤ i). let e : i ≡ suc j = omega arith in omega (arith, ap (ones_under n) e)) (cases_lt i (suc j))
+
+-- no ones past a number's width
+pub none_past : (w k i n : ℕ) → w < 2 ^ k → k ≤ i → ones_under w n ≤ ones_under w i
+none_past w k i n l g =
+    ⊎_elim
+    (λ (h : i < n).
+    let a : w % 2 ^ i ≡ w = mod-eq_of_lt (lt_of_lt_of_le l (pow_mono g)) in
+    let b : w % 2 ^ n ≡ w = mod-eq_of_lt (lt_of_lt_of_le l (pow_mono (omega arith))) in
+    omega (arith, below_is w i ∙ ap ones a, below_is w n ∙ ap ones b))
+    (λ (h : n ≤ i). below_mono w n i h) (cases_lt i n)
+
+-- a number without its bits below place i has the ones from there on
+pub from_place : (w i n : ℕ) → ones_under (w / 2 ^ i * 2 ^ i) n ≡ ones_under w n - ones_under w i
+from_place w i n =
+    let h : ℕ = w / 2 ^ i in
+    let s : ℕ = w % 2 ^ i in
+    let small : s < 2 ^ i = mod-lt w (pow_pos i) in
+    let is : w ≡ h * 2 ^ i + s = sym (div-add-mod' w (2 ^ i)) in
+    ⊎_elim
+    (λ (g : i < n).
+    let m : ℕ = n - i in
+    let at : n ≡ m + i = omega arith in
+    omega (
+      arith,
+      ap (ones_under (h * 2 ^ i)) at ∙ ap (λ a. ones_under a (m + i)) (sym (add-zero (h * 2 ^ i))) ∙ past h i 0 m (pow_pos i) ∙ ap (λ a. ones (h % 2 ^ m) + a) (ones_digit 0 (omega arith)),
+      ap (ones_under w) at ∙ ap (λ a. ones_under a (m + i)) is ∙ past h i s m small,
+      below_is w i,
+    ))
+    (λ (g : n ≤ i). omega (arith, below_mono w n i g, below_is (h * 2 ^ i) n ∙ ap ones (multiple h i n g) ∙ ones_digit 0 (omega arith)))
+    (cases_lt i n)
 
 pub record Lowest (x t : ℕ) : Type 0 where
   pub under : t < 64
@@ -94,9 +130,9 @@ lowest x p l = go (count_trailing_zeros 64 x) (lowest_one 64 x p l)
         let none : (n : ℕ) → n ≤ t → ones_under x n ≡ 0 =
         λ n le. below_is x n ∙ ap ones (ap (λ a. a % 2 ^ n) e ∙ multiple (h * 2 + 1) t n le) ∙ ones_digit 0 (omega arith) in
         let one : (m : ℕ) → ones_under x (m + (1 + t)) ≡ ones (h % 2 ^ m) + 1 =
-        λ m. ap (λ a. ones_under a (m + (1 + t))) is ∙ past h t (2 ^ t) m low-lt ∙ ap (λ a. ones (h % 2 ^ m) + a) (ones_pow t) in
+        λ m. ap (λ a. ones_under a (m + (1 + t))) is ∙ past h (1 + t) (2 ^ t) m low-lt ∙ ap (λ a. ones (h % 2 ^ m) + a) (ones_pow t) in
         let zeros : (m : ℕ) → ones_under (bit_and x (x - 1)) (m + (1 + t)) ≡ ones (h % 2 ^ m) + 0 =
-        λ m. ap (λ a. ones_under a (m + (1 + t))) cut ∙ past h t 0 m (pow_pos (1 + t)) ∙ ap (λ a. ones (h % 2 ^ m) + a) (ones_digit 0 (omega arith)) in
+        λ m. ap (λ a. ones_under a (m + (1 + t))) cut ∙ past h (1 + t) 0 m (pow_pos (1 + t)) ∙ ap (λ a. ones (h % 2 ^ m) + a) (ones_digit 0 (omega arith)) in
         record {
           under = small;
           before = none t (omega arith);

@@ -1,8 +1,12 @@
 #![tactic(auto)]
 
-ghost use Rattle.std.specs.Prelude.{◌≡◌, ℕ, ◌+◌, ◌*◌, ◌/◌, ◌%◌, ◌^◌, ◌<◌, ◌≤◌, min, ◌⊎◌, length, if◌then◌else◌, MatchOption, ◌==◌, nat_eq, slice_index, slice_set};
+ghost use Rattle.std.specs.Prelude.{◌≡◌, ℕ, ◌+◌, ◌-◌, ◌*◌, ◌/◌, ◌%◌, ◌^◌, ◌<◌, ◌≤◌, min, ◌⊎◌, length, if◌then◌else◌, MatchOption, ◌==◌, nat_eq, slice_index, slice_set};
 ghost use Rattle.words.specs.Bits.{field, bit_at, ones_under, Selected};
 ghost use Rattle.words.specs.Row.{row_of};
+
+mod moves;
+
+pub use moves::{move_bits_down, move_bits_up};
 
 /// The width of a packed field: 1 to 32 bits.
 #[derive(Clone, Copy, PartialEq, Eq, Debug)]
@@ -62,6 +66,13 @@ pub fn ones_below(w: u64, n: u32) -> u32
     } else {
         w.count_ones()
     }
+}
+
+/// `w` with its ones at the places from `i` on, and no others: 0 where `i` is past the word.
+pub fn ones_from(w: u64, i: u32) -> u64
+    ensures { (n : ℕ) → ones_under result n ≡ ones_under w n - ones_under w i }
+{
+    if i < 64 { w >> i << i } else { 0 }
 }
 
 /// How many of the places 0 to `i` of `w` hold a one: of all places where `i` is 63 or more.

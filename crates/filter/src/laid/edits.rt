@@ -8,6 +8,7 @@ ghost use Rattle.filter.specs.Layouts.{bits_of, entries};
 use crate::cuts::{quotient_of, remainder_of};
 use crate::editing::{Arrival, Departure};
 use crate::laid::Layout;
+use crate::laid::runs::Run;
 use blocks::Slot;
 
 impl Layout<'_> {
@@ -19,10 +20,9 @@ impl Layout<'_> {
             (λ a. Arrives (bits_of self.now) self.now.count (entries self.now) fingerprint a.quotient.0 a.at.0 a.free.0 a.remainder a.ends a.follows) }
     {
         let quotient = quotient_of(self.blocks.width, fingerprint);
-        let free = self.first_free(quotient)?;
         let remainder = remainder_of(self.blocks.width, fingerprint);
-        let from = self.start_of(quotient);
-        let to = self.stop_of(quotient);
+        let Run { from, to } = self.run_of(quotient);
+        let free = self.first_free(to)?;
         let at = self.seek(from, to, remainder);
         let ends = at.0 == to.0;
         Some(Arrival {
@@ -43,7 +43,7 @@ impl Layout<'_> {
             (λ d. Departs (bits_of self.now) self.now.count (entries self.now) fingerprint d.quotient.0 d.at.0 d.gap.0 d.follows d.only) }
     {
         let place = self.find(fingerprint)?;
-        let idle = self.first_idle(place.quotient);
+        let idle = self.first_idle(Slot(place.to.0 - 1));
         let last = place.at.0 + 1 == place.to.0;
         Some(Departure {
             quotient: place.quotient,

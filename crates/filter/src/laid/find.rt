@@ -9,6 +9,7 @@ ghost use Rattle.filter.specs.Layouts.{bits_of, entries, many_of, remainders_of}
 
 use crate::cuts::{quotient_of, remainder_of};
 use crate::laid::Layout;
+use crate::laid::runs::Run;
 use blocks::{Quotient, Slot};
 
 /// Where an entry of a fingerprint lies: in slot `at`, in the run of its quotient from slot `from` up to slot `to`.
@@ -40,8 +41,7 @@ impl Layout<'_> {
             (λ x. (x.quotient.0 ≡ c.0) × (x.from.0 ≡ start (many_of self.now) c.0) × (x.to.0 ≡ x.from.0 + many_of self.now c.0)
             × InRun (many_of self.now) c.0 x.at.0 × (remainders_of self.now x.at.0 ≡ rem)) }
     {
-        let from = self.start_of(c);
-        let to = self.stop_of(c);
+        let Run { from, to } = self.run_of(c);
         let at = self.seek(from, to, rem);
         if at.0 < to.0 && self.blocks.remainder(at) == rem {
             Some(Place {

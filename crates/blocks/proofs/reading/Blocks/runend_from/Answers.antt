@@ -1,31 +1,42 @@
-use Rattle.std.proofs.Common.{◌≡◌, ℕ, ◌+◌, ◌*◌, ◌/◌, ◌%◌, ◌<◌, ◌≤◌, min, List, length, get_or, sym, ap, ◌∙◌, inr, arith, rules}
-use Rattle.words.specs.Bits.{bit_at, ones_under}
+use Rattle.std.proofs.Common.{◌≡◌, ℕ, suc, ◌+◌, ◌-◌, ◌*◌, ◌/◌, ◌%◌, ◌<◌, ◌≤◌, List, length, get_or, Some, ap, ◌∙◌, inr, ⊎_elim, arith, rules}
+use Rattle.std.proofs.lemmas.Bool.{cases_lt}
+use Rattle.words.specs.Bits.{bit_at, ones_under, Selected}
 use Rattle.layout.specs.Load.{tally}
 use Rattle.layout.proofs.Ranks.{tally_mono}
 use Rattle.blocks.specs.Views.{word_index, runend_in}
-use Rattle.blocks.specs.Searches.{OneFrom, FoundRunend}
-use Rattle.blocks.proofs.Tallies.{tally_more, ones_mono, runend_bit, runend_ones, runend_most}
+use Rattle.blocks.specs.Searches.{FoundRunend}
+use Rattle.blocks.proofs.Tallies.{tally_more, ones_mono, ones_step, runend_bit, runend_ones, runend_most}
 use Rattle.blocks.proofs.reading.Blocks.runend_from.Goals as goal
 
--- a one of a block's second word is a runend
-found : (r : ℕ) (ws : List ℕ) (b i k p w : ℕ) → w ≡ get_or ws (word_index r b 1) 0 → i < 64 → OneFrom w i k p → FoundRunend r ws (64 * b + i) k (64 * b + p)
-found r ws b i k p w e l o =
-    let one : runend_in r ws (64 * b + p) ≡ 1 = runend_bit r ws b p o.below ∙ ap (λ x. bit_at x p) (sym e) ∙ o.one in
+-- v has the ones of a block's second word from place i on: the k-th of them is the k-th runend from there on
+found : (r : ℕ) (ws : List ℕ) (b i k p w v : ℕ) → w ≡ get_or ws (word_index r b 1) 0 → i < 64
+    → ((n : ℕ) → ones_under v n ≡ ones_under w n - ones_under w i) → Selected v k (Some p) → FoundRunend r ws (64 * b + i) k (64 * b + p)
+found r ws b i k p w v e l rest s =
+    let next = ones_step w p in
+    let one = ones_step v p in
+    let after : i ≤ p =
+    ⊎_elim (λ (g : p < i). absurd (omega (arith, rest p, rest (suc p), one, s.1, ones_mono w (suc p) i g))) (λ (g : i ≤ p). g) (cases_lt p i) in
+    let mono = ones_mono w i p after in
     record {
       from = omega arith;
-      one = one;
+      one = omega (arith, runend_bit r ws b p s.0, ap (λ x. bit_at x p) e, next, one, rest p, rest (suc p), s.1);
       nth = omega (
         arith,
         tally_more (runend_in r ws) (64 * b + p),
-        runend_ones r ws b p (omega arith),
+        runend_bit r ws b p s.0,
+        runend_ones r ws b p (omega (arith, s.0)),
         runend_ones r ws b i (omega arith),
+        ap (λ x. bit_at x p) e,
         ap (λ x. ones_under x p) e,
         ap (λ x. ones_under x i) e,
+        next,
+        one,
+        rest p,
+        rest (suc p),
+        s.1,
+        s.2,
       );
     }
-
-pub loop-block-init : goal.loop-block-init
-loop-block-init c = (omega arith, omega arith, omega arith, omega arith)
 
 pub returns-in_err-w : goal.returns-in_err-w
 returns-in_err-w c =
@@ -38,30 +49,14 @@ returns-in_err-w c =
     let past : length ws ≤ word_index r b 1 = grind (arith, rules, c.in_err-w.ensures.lookup.0, c.word_of.ensures) in
     rw c.from_residual.ensures (inr (λ x _. omega (arith, c.loop-block.invariant.2, c.loop-block.invariant.3, ap (tally (runend_in r ws)) a, runend_most r ws b (64 * b + i) x past (omega arith))))
 
-pub overflow_sub-here : goal.overflow_sub-here
-overflow_sub-here c =
-    let w = c.in_ok-w.field-0.now in
-    let i = c.loop-block.place in
-    let at : min i 64 ≡ i = omega arith in
-    omega (arith, ap (ones_under w) at, ones_mono w i 64 (omega arith))
-
-pub one_from-requires : goal.one_from-requires
-one_from-requires c =
-    let w = c.in_ok-w.field-0.now in
-    let i = c.loop-block.place in
-    let at : min i 64 ≡ i = omega arith in
-    (omega arith, (omega arith, omega (arith, ap (ones_under w) at, ones_mono w i 64 (omega arith))))
-
-pub returns-then-left-here : goal.returns-then-left-here
-returns-then-left-here c =
+pub returns-in-Some : goal.returns-in-Some
+returns-in-Some c =
     let r = c.args.self.now.width.bits in
     let ws = c.args.self.now.words.now in
     let from = c.args.from.0 in
-    let b = c.loop-block.block in
-    let i = c.loop-block.place in
     let w = c.in_ok-w.field-0.now in
     let a : 64 * (from / 64) + from % 64 ≡ from = omega arith in
-    let h = found r ws b i c.loop-block.left c.one_from.result w (search rules) (omega arith) c.one_from.ensures in
+    let h = found r ws c.loop-block.block c.loop-block.place c.loop-block.left c.in-Some.i w c.ones_from-rest.result (search rules) (omega arith) c.ones_from-rest.ensures c.in-Some.ensures in
     record {
       from = omega (arith, h.from);
       one = h.one;
@@ -76,15 +71,17 @@ loop-block-preserved c =
     let i = c.loop-block.place in
     let w = c.in_ok-w.field-0.now in
     let e : w ≡ get_or ws (word_index r b 1) 0 = search rules in
-    let at : min i 64 ≡ i = omega arith in
     let next : 64 * (b + 1) + 0 ≡ 64 * b + 64 = omega arith in
-    let mono = ones_mono w i 64 (omega arith) in (
+    let mono = ones_mono w i 64 (omega arith) in
+    let all : c.rank.result ≡ ones_under w 64 - ones_under w i = c.rank.ensures ∙ c.ones_from-rest.ensures 64 in
+    let few : c.rank.result < c.loop-block.left = ⊎_elim (λ l. omega arith) (λ l. omega (arith, l, c.rank.ensures)) c.in_default.ensures in (
       omega arith,
       omega arith,
-      omega (arith, ap (ones_under w) at),
+      omega arith,
       omega (
         arith,
-        ap (ones_under w) at,
+        all,
+        few,
         ap (tally (runend_in r ws)) next,
         runend_ones r ws b 64 (omega arith),
         runend_ones r ws b i (omega arith),

@@ -1,14 +1,13 @@
-use Rattle.std.proofs.Common.{◌≡◌, ◌+◌, ◌-◌, ◌&&◌, eqb, ltb, refl, subst, rules}
-use Rattle.layout.specs.Load.{FirstIdle}
+use Rattle.std.proofs.Common.{◌≡◌, ◌+◌, ◌-◌, ◌&&◌, eqb, ltb, refl, rules}
 use Rattle.filter.specs.Arrivals.{Departs}
 use Rattle.filter.proofs.Edited.{departs, gone_room}
-use Rattle.filter.proofs.Sounds.{sound_of, placed_below}
-use Rattle.filter.specs.Layouts.{bits_of, many_of, entries}
+use Rattle.filter.proofs.Sounds.{sound_of, placed_last, idle_past_placed}
+use Rattle.filter.specs.Layouts.{bits_of, entries}
 use Rattle.filter.proofs.laid.Layout.departure.Goals as goal
 use Rattle.filter.proofs.laid.Layout.departure.Goals.{Joined-place}
 
 pub first_idle-idle-requires : goal.first_idle-idle-requires
-first_idle-idle-requires c = placed_below c.args.self.now c.args.fingerprint _ _ _ _ c.in_ok-place.ensures
+first_idle-idle-requires c = placed_last c.args.self.now c.args.fingerprint _ _ _ _ c.in_ok-place.ensures
 
 -- the entry that was found goes
 goes : (c : Joined-place) → Departs (bits_of c.args.self.now) c.args.self.now.count (entries c.args.self.now) c.args.fingerprint
@@ -18,7 +17,7 @@ goes c =
     let x = c.in_ok-place.place in
     let follows : c.if-place.result ≡ (ltb x.from.0 x.at.0 && eqb (x.at.0 + 1) x.to.0) = search rules in
     departs _ _ _ (sound_of l) c.args.fingerprint x.quotient.0 x.from.0 x.to.0 x.at.0 c.first_idle-idle.result.0 _ _ c.in_ok-place.ensures
-    (subst (λ y. FirstIdle (many_of l) y c.first_idle-idle.result.0) c.in_ok-place.ensures.its_quotient c.first_idle-idle.ensures.idle) c.first_idle-idle.ensures.bound follows refl
+    (idle_past_placed l c.args.fingerprint _ _ _ _ _ c.in_ok-place.ensures c.first_idle-idle.ensures.idle) c.first_idle-idle.ensures.bound follows refl
 
 pub invariant_of-result : goal.invariant_of-result
 invariant_of-result c =
