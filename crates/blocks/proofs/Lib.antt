@@ -5,3 +5,4 @@ pub mod Readings
 pub mod Tallies
 pub mod Moving
 pub mod Shifting
+pub mod Searching

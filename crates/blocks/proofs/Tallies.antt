@@ -1,5 +1,5 @@
 -- The ones of the occupied and runend rows, counted by the words of the blocks.
-use Rattle.std.proofs.Common.{◌≡◌, ℕ, zero, suc, ◌+◌, ◌-◌, ◌*◌, ◌/◌, ◌%◌, ◌^◌, ◌<◌, ◌≤◌, List, length, get_or, refl, ap, ◌∙◌, ap₂, ⊎_elim, mul-le-mul_right, arith}
+use Rattle.std.proofs.Common.{◌≡◌, ℕ, zero, suc, ◌+◌, ◌-◌, ◌*◌, ◌/◌, ◌%◌, ◌<◌, ◌≤◌, List, length, get_or, refl, ap, ◌∙◌, ap₂, ⊎_elim, mul-le-mul_right, arith}
 use Rattle.std.proofs.lemmas.List.{get_or_past}
 use Rattle.std.proofs.lemmas.Bool.{cases_lt}
 use Rattle.words.specs.Bits.{bit_at, ones_under}
@@ -25,12 +25,6 @@ ones_none w = refl
 pub ones_few : (w i : ℕ) → ones_under w i ≤ i
 ones_few w zero = omega (arith, ones_none w)
 ones_few w (suc i) = omega (arith, ones_step w i, ones_few w i, bit_lt w i)
-
-pub ones_mono : (w i j : ℕ) → i ≤ j → ones_under w i ≤ ones_under w j
-ones_mono w i zero l = let e : i ≡ 0 = omega arith in omega (arith, ap (ones_under w) e)
-ones_mono w i (suc j) l =
-    ⊎_elim (λ (g : i < suc j). omega (arith, ones_step w j, ones_mono w i j (omega arith)))
-    (λ (g : suc j ≤ i). let e : i ≡ suc j = omega arith in omega (arith, ap (ones_under w) e)) (cases_lt i (suc j))
 
 module _ (r : ℕ) (ws : List ℕ) (m : ℕ) where
   -- the row of the m-th words of the blocks: bit k % 64 of word m of block k / 64
@@ -90,10 +84,6 @@ module _ (r : ℕ) (ws : List ℕ) where
   unfolding runend_in
   runend_ones b i l = row_ones r ws 1 b i l
 
-  pub occupied_past : (b n : ℕ) → length ws ≤ word_index r b 0 → tally (occupied_bit_in r ws) (64 * b + n) ≡ tally (occupied_bit_in r ws) (64 * b)
-  unfolding occupied_bit_in
-  occupied_past b n l = row_past r ws 0 b n l
-
   pub runend_past : (b n : ℕ) → length ws ≤ word_index r b 1 → tally (runend_in r ws) (64 * b + n) ≡ tally (runend_in r ws) (64 * b)
   unfolding runend_in
   runend_past b n l = row_past r ws 1 b n l
@@ -108,6 +98,14 @@ module _ (r : ℕ) (ws : List ℕ) where
       omega (arith, ap (tally f) e, runend_past b (x - 64 * b) l, tally_mono f (64 * b) s g))
       (cases_lt x s)
 
-  -- where a u32 names every slot of the words, what no such slot has no place has
-  pub runend_nowhere : (n : ℕ) → length ws ≤ word_index r (2 ^ 26) 1 → ((x : ℕ) → x ≤ 2 ^ 32 → tally (runend_in r ws) x < n) → (x : ℕ) → tally (runend_in r ws) x < n
-  runend_nowhere n l h x = omega (arith, h (2 ^ 32) (omega arith), runend_most (2 ^ 26) (2 ^ 32) x l (omega arith))
+module _ (r : ℕ) (ws : List ℕ) where
+  occupied_two : (c : ℕ) → occupied_bit_in r ws c < 2
+  unfolding occupied_bit_in
+  occupied_two c = bit_lt (get_or ws (word_index r (c / 64) 0) 0) (c % 64)
+
+  -- no more occupied quotients than quotients
+  pub occupied_few : (a n : ℕ) → tally (occupied_bit_in r ws) (a + n) ≤ tally (occupied_bit_in r ws) a + n
+  occupied_few a zero = let z : a + 0 ≡ a = omega arith in omega (arith, ap (tally (occupied_bit_in r ws)) z)
+  occupied_few a (suc n) =
+      let z : a + suc n ≡ suc (a + n) = omega arith in
+      omega (arith, ap (tally (occupied_bit_in r ws)) z, tally_step (occupied_bit_in r ws) (a + n), occupied_few a n, occupied_two (a + n))

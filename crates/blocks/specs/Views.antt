@@ -21,6 +21,10 @@ runend_in r ws s = bit_at (slice_index ws (word_index r (s / 64) 1)) (s % 64)
 unfoldable pub offset_in : ℕ → List ℕ → ℕ → ℕ
 offset_in r ws b = slice_index ws (word_index r b 2)
 
+-- the slot at which the runs of a block's quotients begin: its first slot, past the entries that come from before it
+abbrev pub head_in : ℕ → List ℕ → ℕ → ℕ
+head_in r ws b = 64 * b + offset_in r ws b
+
 -- the bit at which the runend bit of slot s lies, of all bits of the words
 abbrev pub runend_place : ℕ → ℕ → ℕ
 runend_place r s = 64 * word_index r (s / 64) 1 + s % 64

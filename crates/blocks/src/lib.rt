@@ -9,6 +9,7 @@ mod writing;
 
 pub use moves::{lower_offsets, move_down, move_up, raise_offsets};
 pub use reading::Blocks;
+pub use search::NextRun;
 pub use writing::{set_occupied, set_offset, set_remainder, set_runend};
 
 /// The quotient of a fingerprint: it counts the bits of the occupied row.

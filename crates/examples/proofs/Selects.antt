@@ -1,7 +1,8 @@
 -- Which place is selected.
 use Rattle.std.proofs.Common.{◌≡◌, ℕ, suc, ◌+◌, ◌<◌, ◌↔◌, Some, None, Option, sym, refl, ap, subst, inl, inr, arith}
 use Rattle.words.specs.Bits.{bit_at, ones_under, Selected}
-use Rattle.blocks.proofs.Tallies.{ones_step, ones_mono}
+use Rattle.words.proofs.Ones.{ones_mono}
+use Rattle.blocks.proofs.Tallies.{ones_step}
 
 ones_at : (ones_under 192 7 ≡ 1) × (ones_under 192 8 ≡ 2) × (ones_under 192 64 ≡ 2)
 unfolding ones_under

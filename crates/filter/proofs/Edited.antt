@@ -21,7 +21,7 @@ use Rattle.filter.specs.Meaning.{size_of, held_in, Sound}
 use Rattle.filter.specs.Locating.{Placed}
 use Rattle.filter.specs.Editing.{EntryPut, EntryGone}
 use Rattle.filter.specs.Arrivals.{before, Arrives, Departs}
-use Rattle.filter.proofs.Held.{is_sorted}
+use Rattle.layout.proofs.Bags.{is_sorted}
 use Rattle.filter.proofs.Editings.{put_shows, gone_shows}
 use Rattle.filter.proofs.Locatings.{within, load_is}
 

@@ -2,7 +2,7 @@
 use Rattle.std.proofs.Common.{◌≡◌, ℕ, zero, suc, ◌+◌, ◌-◌, ◌*◌, ◌/◌, ◌^◌, ◌<◌, ◌≤◌, ◌⊎◌, List, [], ◌++◌, length, get_or, take, replicate, sym, ap, ◌∙◌, subst, inl, inr, ⊎_elim, mul-le-mul_right, div-mul-le_self, arith, shr_lt}
 use Rattle.std.specs.List.{AllByRecursion as Every}
 use Rattle.std.proofs.ByRecursion.{All-get_or, All-from_get_or}
-use Rattle.std.proofs.lemmas.List.{take-append-le, length-replicate, take_all}
+use Rattle.std.proofs.lemmas.List.{length-replicate, take_at}
 use Rattle.std.proofs.lemmas.List.FromFn.{length-map-range_with_len}
 use Rattle.std.proofs.lemmas.Bool.{cases_lt}
 use Rattle.words.proofs.Rows.{Words}
@@ -19,9 +19,6 @@ use Rattle.filter.specs.Meaning.{size_of, held_in, entries_of, Sound}
 pub sorted_is : (ps : List ℕ) → sorted ps ≡ ps → Sorted ps
 sorted_is ps e = subst Sorted e (sorted_sorted ps)
 
-pub is_sorted : (ps : List ℕ) → Sorted ps → sorted ps ≡ ps
-is_sorted ps s = (count_law 0 0 ps).3 s
-
 -- the blocks have room in the words
 pub size_room : (r n : ℕ) → size_of r (block_count r n) ≤ n
 size_room r n =
@@ -31,6 +28,10 @@ size_room r n =
 pub words_length : (r blocks : ℕ) (ps : List ℕ) → length (filter_words r blocks ps) ≡ size_of r blocks
 unfolding filter_words
 words_length r blocks ps = length-map-range_with_len _ 0 (blocks * (r + 3))
+
+-- what stands after the words of the blocks is not of them
+pub front : (r blocks : ℕ) (ps tail : List ℕ) → take (size_of r blocks) (filter_words r blocks ps ++ tail) ≡ filter_words r blocks ps
+front r blocks ps tail = take_at (filter_words r blocks ps) tail (size_of r blocks) (words_length r blocks ps)
 
 -- crowding does not see the order of a list
 pub room_any_order : (slots r : ℕ) (ps : List ℕ) → Roomy slots r (sorted ps) → Roomy slots r ps
@@ -75,9 +76,7 @@ module _ (r blocks : ℕ) (pos : 0 < r) (few : blocks ≤ 16640) where
   module _ (ps tail ws : List ℕ) (order : sorted ps ≡ ps) (room : Roomy (64 * blocks) r ps) (is : ws ≡ filter_words r blocks ps ++ tail) where
     own_is : take (size_of r blocks) ws ≡ filter_words r blocks ps
     own_is =
-        ap (take (size_of r blocks)) is
-        ∙ take-append-le (size_of r blocks) (filter_words r blocks ps) tail (omega (arith, words_length r blocks ps))
-        ∙ take_all (size_of r blocks) (filter_words r blocks ps) (omega (arith, words_length r blocks ps))
+        ap (take (size_of r blocks)) is ∙ front r blocks ps tail
 
     pub entries_are : entries_of r blocks ws ≡ ps
     entries_are =

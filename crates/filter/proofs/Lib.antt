@@ -6,3 +6,4 @@ pub mod Writings
 pub mod Edited
 pub mod Slotting
 pub mod Sounds
+pub mod Ranges

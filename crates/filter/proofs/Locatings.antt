@@ -1,5 +1,5 @@
 -- Runs in words that hold a layout: where they start and stop, by the runends from their quotients on.
-use Rattle.std.proofs.Common.{◌≡◌, ℕ, zero, suc, ◌+◌, ◌-◌, ◌*◌, ◌/◌, ◌%◌, ◌^◌, ◌<◌, ◌≤◌, max, Bool, true, false, eqb, ltb, List, sym, refl, ap, ◌∙◌, subst, ⊎_elim, zero-add, arith}
+use Rattle.std.proofs.Common.{◌≡◌, ℕ, suc, ◌+◌, ◌-◌, ◌*◌, ◌/◌, ◌%◌, ◌^◌, ◌<◌, ◌≤◌, max, Bool, true, false, eqb, ltb, List, sym, refl, ap, ◌∙◌, subst, ⊎_elim, zero-add, add-zero, arith}
 use mathlib.Core.Path.{fun_ext}
 use mir.Val.{bool_byte}
 use Rattle.std.proofs.lemmas.Bool.{cases_lt}
@@ -12,13 +12,11 @@ use Rattle.layout.proofs.Heads.{start_here, start_after, stop_after}
 use Rattle.layout.proofs.Loads.{load_step, start_mono, jump_law}
 use Rattle.layout.proofs.Moves.{bit_pos, bit_zero}
 use Rattle.layout.proofs.Ranks.{tally_step, tally_mono, rank_is}
-use Rattle.blocks.specs.Views.{occupied_bit_in, runend_in}
+use Rattle.blocks.specs.Views.{occupied_bit_in, runend_in, head_in}
+use Rattle.blocks.specs.Searches.{AfterRunends, FoundNext, open_at}
+use Rattle.blocks.proofs.Tallies.{occupied_few}
 use Rattle.filter.specs.Meaning.{held_in, Sound}
-use Rattle.filter.specs.Locating.{head_in, RunsAhead, AfterRunends}
-
-bit_two : (b : Bool) → bit b < 2
-bit_two true = omega arith
-bit_two false = omega arith
+use Rattle.filter.specs.Locating.{RunsAhead}
 
 module _ (r blocks : ℕ) (ws : List ℕ) (sound : Sound r blocks ws) where
   -- how many entries each quotient has
@@ -55,17 +53,11 @@ module _ (r blocks : ℕ) (ws : List ℕ) (sound : Sound r blocks ws) where
   flag_is true = refl
   flag_is false = refl
 
-  few_ones : (a n : ℕ) → tally (occupied_bit_in r ws) (a + n) ≤ tally (occupied_bit_in r ws) a + n
-  few_ones a zero = let z : a + 0 ≡ a = omega arith in omega (arith, ap (tally (occupied_bit_in r ws)) z)
-  few_ones a (suc n) =
-      let z : a + suc n ≡ suc (a + n) = omega arith in
-      omega (arith, ap (tally (occupied_bit_in r ws)) z, tally_step (occupied_bit_in r ws) (a + n), few_ones a n, sound.shows.occupied (a + n), bit_two (ltb 0 (count (a + n))))
-
   -- few of them are occupied quotients of one block
   pub upto_few : (c : ℕ) → tally (occupied_bit_in r ws) (suc c) - tally (occupied_bit_in r ws) (64 * (c / 64)) ≤ 64
   upto_few c =
       let z : 64 * (c / 64) + (c % 64 + 1) ≡ suc c = omega arith in
-      omega (arith, few_ones (64 * (c / 64)) (c % 64 + 1), ap (tally (occupied_bit_in r ws)) z)
+      omega (arith, occupied_few r ws (64 * (c / 64)) (c % 64 + 1), ap (tally (occupied_bit_in r ws)) z)
 
   pub below_few : (c : ℕ) → tally (occupied_bit_in r ws) c - tally (occupied_bit_in r ws) (64 * (c / 64)) ≤ 64
   below_few c = omega (arith, upto_few c, tally_mono (occupied_bit_in r ws) c (suc c) (omega arith))
@@ -126,12 +118,38 @@ module _ (r blocks : ℕ) (ws : List ℕ) (sound : Sound r blocks ws) where
       omega (arith, start_found c x k s ahead (subst (λ y. AfterRunends r ws x y s) same after)))
       (cases_lt 0 (count c))
 
+  -- the run after those that go on at c is that of c, or would be
+  module _ (c x e : ℕ) (next : FoundNext r ws c x e) where
+    ahead_open : RunsAhead count (runend_in r ws) c c (open_at r ws c)
+    ahead_open = ahead_found c _ _ c refl refl (omega (arith, next.begun)) _ refl
+
+    pub next_start : x ≡ start count c
+    next_start = start_found c c (open_at r ws c) x ahead_open next.start
+
+    pub next_stop : 1 ≡ bool_byte (eqb (occupied_bit_in r ws c) 1) → suc e ≡ start count c + count c
+    next_stop own = stop_found c c (open_at r ws c) 1 (suc e) ahead_open own (record { none = λ z. absurd (omega arith); some = λ l. (e, next.end, refl) })
+
+    pub next_empty : 0 ≡ bool_byte (eqb (occupied_bit_in r ws c) 1) → x ≡ start count c + count c
+    next_empty own = stop_found c c (open_at r ws c) 0 x ahead_open own (subst (λ y. AfterRunends r ws c y x) (sym (add-zero (open_at r ws c))) next.start)
+
   -- from the start of a run on, nothing lies ahead of it
   pub none_ahead : (c x : ℕ) → x ≡ start count c → RunsAhead count (runend_in r ws) c x 0
   none_ahead c x e = record { from = omega arith; upto = omega arith; runs = omega (arith, ap (tally (runend_in r ws)) e) }
 
   pub stop_next : (c x f s : ℕ) → x ≡ start count c → f ≡ bool_byte (eqb (occupied_bit_in r ws c) 1) → AfterRunends r ws x f s → s ≡ start count c + count c
   stop_next c x f s e own after = stop_found c x 0 f s (none_ahead c x e) own (subst (λ y. AfterRunends r ws x y s) (sym (zero-add f)) after)
+
+  -- below the slot at which the run of c stops as many runs end as there are occupied quotients up to c
+  pub stops_counted : (c : ℕ) → tally (runend_in r ws) (start count c + count c) ≡ tally (busy count) (suc c)
+  stops_counted c =
+      ⊎_elim
+      (λ (l : 0 < count c).
+      let z : start count (suc c) ≡ start count c + count c = omega (arith, load_step count c) in
+      omega (arith, ap (tally (runend_in r ws)) z, rank_is count (runend_in r ws) ends (suc c)))
+      (λ (l : count c ≤ 0).
+      let z : start count c + count c ≡ start count c = omega arith in
+      omega (arith, ap (tally (runend_in r ws)) z, rank_is count (runend_in r ws) ends c, tally_step (busy count) c, bit_zero (count c) (omega arith)))
+      (cases_lt 0 (count c))
 
   -- the runends that are looked for are there
   module _ (c x k : ℕ) (few : 64 * blocks ≤ 2 ^ 32) (fits : c < 2 ^ 32) (ahead : RunsAhead count (runend_in r ws) c x k) where
@@ -150,6 +168,75 @@ module _ (r blocks : ℕ) (ws : List ℕ) (sound : Sound r blocks ws) where
     pub ahead_there : tally (runend_in r ws) x + k ≤ tally (runend_in r ws) (2 ^ 32)
     ahead_there =
         omega (arith, ahead.runs, tally_mono (runend_in r ws) (start count c) (2 ^ 32) (omega (arith, start_bound c)))
+
+  -- x is where the run of an earlier quotient stops: where that of x stops, by the occupied quotients in between
+  module _ (past x more : ℕ) (stopped : x ≡ start count past + count past)
+      (counted : more ≡ tally (occupied_bit_in r ws) (x + 1) - tally (occupied_bit_in r ws) (past + 1)) where
+    ahead_of_stop : past < x → (k : ℕ) → k ≡ tally (busy count) x - tally (busy count) (suc past) → RunsAhead count (runend_in r ws) x x k
+    ahead_of_stop l k e = record {
+      from = omega arith;
+      upto = omega arith;
+      runs = omega (
+        arith,
+        e,
+        ap (tally (runend_in r ws)) stopped,
+        stops_counted past,
+        rank_is count (runend_in r ws) ends x,
+        tally_mono (busy count) (suc past) x (omega arith),
+      );
+    }
+
+    more_is : past < x → more ≡ (tally (busy count) x - tally (busy count) (suc past)) + bool_byte (eqb (occupied_bit_in r ws x) 1)
+    more_is l =
+        let a : x + 1 ≡ suc x = omega arith in
+        let b : past + 1 ≡ suc past = omega arith in
+        omega (
+          arith,
+          counted,
+          ap (tally (occupied_bit_in r ws)) a,
+          ap (tally (occupied_bit_in r ws)) b,
+          tally_is (suc x),
+          tally_is (suc past),
+          tally_step (busy count) x,
+          own_is x (bool_byte (eqb (occupied_bit_in r ws x) 1)) refl,
+          tally_mono (busy count) (suc past) x (omega arith),
+        )
+
+    none_more : x ≤ past → more ≡ 0
+    none_more l = omega (arith, counted, tally_mono (occupied_bit_in r ws) (x + 1) (past + 1) (omega arith))
+
+    pub stop_there : 64 * blocks ≤ 2 ^ 32 → x < 2 ^ 32 → tally (runend_in r ws) x + more ≤ tally (runend_in r ws) (2 ^ 32)
+    stop_there few fits =
+        ⊎_elim
+        (λ (l : past < x). omega (arith, more_is l, own_there x x _ few fits (ahead_of_stop l _ refl) _ refl))
+        (λ (l : x ≤ past). omega (arith, none_more l, tally_mono (runend_in r ws) x (2 ^ 32) (omega arith)))
+        (cases_lt past x)
+
+    pub stop_after_stop : (s : ℕ) → AfterRunends r ws x more s → s ≡ start count x + count x
+    stop_after_stop s after =
+        ⊎_elim
+        (λ (l : past < x). stop_found x x _ _ s (ahead_of_stop l _ refl) refl (subst (λ y. AfterRunends r ws x y s) (more_is l) after))
+        (λ (l : x ≤ past). let z : past ≡ x = omega arith in after.none (none_more l) ∙ stopped ∙ ap (λ y. start count y + count y) z)
+        (cases_lt past x)
+
+  -- x is where the run of the quotient after `past` starts: where that of x starts, by the occupied quotients in between
+  module _ (past x more : ℕ) (starts : x ≡ start count (suc past))
+      (counted : more ≡ tally (occupied_bit_in r ws) x - tally (occupied_bit_in r ws) (suc past)) where
+    pub ahead_of_start : RunsAhead count (runend_in r ws) x x more
+    ahead_of_start = record {
+      from = omega arith;
+      upto = omega arith;
+      runs = omega (
+        arith,
+        counted,
+        ap (tally (runend_in r ws)) starts,
+        tally_is x,
+        tally_is (suc past),
+        rank_is count (runend_in r ws) ends (suc past),
+        rank_is count (runend_in r ws) ends x,
+        tally_mono (busy count) (suc past) x (omega arith),
+      );
+    }
 
   -- a slot from which no run is left over is free, and all up to the end of the runs are used
   pub used_upto : (x y : ℕ) → x ≤ y → y < start count x + count x → 0 < load count y + count y

@@ -25,7 +25,8 @@ use Rattle.filter.specs.Layouts.{bits_of, words_in, entries, LayoutOf}
 use Rattle.filter.specs.declared.plan.Plan.{Plan}
 use Rattle.filter.specs.declared.filter.Filter.{Filter}
 use Rattle.filter.specs.declared.laid.Layout.{Layout}
-use Rattle.filter.proofs.Held.{sorted_is, is_sorted, size_room, sound_words, room_any_order, any_order_room, quotients_under, find_crowded, entries_are, zeros_are, Facts, facts, narrow_sorted}
+use Rattle.layout.proofs.Bags.{is_sorted}
+use Rattle.filter.proofs.Held.{sorted_is, size_room, sound_words, room_any_order, any_order_room, quotients_under, find_crowded, entries_are, zeros_are, Facts, facts, narrow_sorted}
 use Rattle.filter.proofs.Edited.{remainder_low, offsets_few, put_words, gone_there, gone_waits, gone_words}
 
 sorted_none : sorted [] ≡ []
@@ -47,19 +48,6 @@ own_of f = sound_words f.plan.r f.blocks (take (size_of f.plan.r f.blocks) (word
 -- words that are the layout of the same list are the words of the blocks
 pub own_words : (f : Filter) (ws : List ℕ) → ws ≡ filter_words f.plan.r f.blocks (fingerprints f) → ws ≡ take (size_of f.plan.r f.blocks) (words_of f)
 own_words f ws is = is ∙ sym f.laid
-
--- the facts of the type of a layout that is read
-pub record LayoutFacts (r count : ℕ) (ws : List ℕ) : Type 0 where
-  pub few : count ≤ 16640
-  pub laid : ws ≡ filter_words r count (held_in r count ws)
-  pub rising : sorted (held_in r count ws) ≡ held_in r count ws
-  pub roomy : Roomy (64 * count) r (held_in r count ws)
-
-pub layout_facts : (f : Filter) (r : ℕ) (ws : List ℕ) → r ≡ f.plan.r → ws ≡ take (size_of f.plan.r f.blocks) (words_of f) → LayoutFacts r f.blocks ws
-layout_facts f r ws er ew =
-    subst (LayoutFacts r f.blocks) (sym ew)
-    (subst (λ x. LayoutFacts x f.blocks (take (size_of f.plan.r f.blocks) (words_of f))) (sym er)
-    (record { few = few_of f; laid = f.laid; rising = f.rising; roomy = f.roomy }))
 
 -- what is said of the layout that is read is said of the filter
 pub by_layout : (f : Filter) (l : Layout) → LayoutOf f l → (P : ℕ → ℕ → List ℕ → Type 0) → P (bits_of l) l.count (entries l) → P f.plan.r f.blocks (fingerprints f)

@@ -1,26 +1,15 @@
 -- Where runs lie in the words.
-use Rattle.std.specs.Prelude.{◌≡◌, ℕ, suc, ◌+◌, ◌-◌, ◌*◌, ◌<◌, ◌≤◌, List, slice_index}
+use Rattle.std.specs.Prelude.{◌≡◌, ℕ, ◌+◌, ◌-◌, ◌≤◌, List, slice_index}
 use Rattle.layout.specs.Rule.{quotient, remainder, many}
 use Rattle.layout.specs.Runs.{remainders}
 use Rattle.layout.specs.Load.{start, tally}
-use Rattle.blocks.specs.Views.{offset_in}
-use Rattle.blocks.specs.Searches.{FoundRunend}
 use Rattle.filter.specs.Slots.{InRun}
-
--- the slot at which the runs of a block's quotients begin: its first slot, past the entries that come from before it
-abbrev pub head_in : ℕ → List ℕ → ℕ → ℕ
-head_in r ws b = 64 * b + offset_in r ws b
 
 -- slot x lies from slot c up to the start of the run of c, and k runs end from there up to that start
 pub record RunsAhead (m end : ℕ → ℕ) (c x k : ℕ) : Type 0 where
   pub from : c ≤ x
   pub upto : x ≤ start m c
   pub runs : tally end x + k ≡ tally end (start m c)
-
--- s is the slot after the k-th runend at or after slot x, and x itself where k is 0
-pub record AfterRunends (r : ℕ) (ws : List ℕ) (x k s : ℕ) : Type 0 where
-  pub none : k ≡ 0 → s ≡ x
-  pub some : 0 < k → (e : ℕ) × FoundRunend r ws x k e × (s ≡ suc e)
 
 -- an entry of fingerprint p lies in slot s of words that hold ps, in the run of its quotient c, which takes the slots from `from` up to `to`
 pub record Placed (r : ℕ) (ps : List ℕ) (p c from to s : ℕ) : Type 0 where

@@ -25,10 +25,10 @@ unfolding remove
 length_remove_same p [] a = omega arith
 length_remove_same p (q ∷ qs) (e, a) = rw (eq-eqb p q (sym (eqb-true q p e))) (omega arith)
 
-sorted_same : (ps : List ℕ) → Sorted ps → sorted ps ≡ ps
+pub is_sorted : (ps : List ℕ) → Sorted ps → sorted ps ≡ ps
 unfolding sorted
-sorted_same [] s = refl
-sorted_same (p ∷ ps) (k, s) = ap (insert p) (sorted_same ps s) ∙ insert_front p ps k
+is_sorted [] s = refl
+is_sorted (p ∷ ps) (k, s) = ap (insert p) (is_sorted ps s) ∙ insert_front p ps k
 
 pub count_law : CountLaw
 count_law p q ps =
@@ -47,7 +47,7 @@ count_law p q ps =
           let none : bit (eqb p q) ≡ 0 = cond-false (eqb p q) 1 0 (ne_eqb p q e) in
           ap length (cond-false (eqb p q) _ _ (ne_eqb p q e)) ∙ omega (arith, none))
           (cases_eq p q),
-      sorted_same ps,
+      is_sorted ps,
     )
 
 pub find_law : FindLaw

@@ -24,13 +24,15 @@ InsertRoomLaw = (slots r p : ℕ) (ps : List ℕ) → Sorted ps → Roomy slots 
     → (Roomy slots r (insert p ps) → (u : ℕ) × FirstFree (many r ps) (quotient r p) u × (u < slots))
     × ((u : ℕ) → FirstFree (many r ps) (quotient r p) u → u < slots → Roomy slots r (insert p ps))
 
+-- one fingerprint less crowds no quotient where none was
 abbrev pub RemoveRoomLaw : Type 0
 RemoveRoomLaw = (slots r p : ℕ) (ps : List ℕ) → Roomy slots r ps → Roomy slots r (remove p ps)
 
--- the order of the fingerprints does not matter to this, and quotients past all those that there are are never crowded
+-- the order of the fingerprints does not matter to this
 abbrev pub AnyOrderLaw : Type 0
 AnyOrderLaw = (r : ℕ) (ps : List ℕ) (c : ℕ) → many_from r (sorted ps) c ≡ many_from r ps c
 
+-- quotients past all those that there are are never crowded
 abbrev pub BoundLaw : Type 0
 BoundLaw = (slots r bound : ℕ) (ps : List ℕ) → Every (λ p. quotient r p < bound) ps → (c : ℕ) → bound ≤ c → Crowded slots r ps c → ⊥
 
@@ -49,20 +51,23 @@ UsedJumpLaw = (r : ℕ) (ps : List ℕ) → Sorted ps → (x y : ℕ) → x ≤ 
 abbrev pub last_slot : ℕ → List ℕ → ℕ → ℕ
 last_slot r ps c = ((c + offset_at r (laid r 0 ps) c) + many r ps c) - 1
 
+-- the run of an occupied quotient ends at SELECT of the runends for its RANK among the occupied ones
 abbrev pub SelectSlotsLaw : Type 0
 SelectSlotsLaw = (r : ℕ) (ps : List ℕ) → Sorted ps → (c : ℕ) → 0 < many r ps c
     → Select (runend_at r (laid r 0 ps)) (rank (occupied_at r ps) c) (last_slot r ps c)
 
+-- as many runs end before slot x and its offset as there are occupied quotients below x
 abbrev pub RankSlotsLaw : Type 0
 RankSlotsLaw = (r : ℕ) (ps : List ℕ) → Sorted ps → (x : ℕ)
     → tally (runend_at r (laid r 0 ps)) (x + offset_at r (laid r 0 ps) x) ≡ tally (occupied_at r ps) x
 
--- from slot x and its offset on
+-- the same counted from slot x and its offset on
 abbrev pub BlockSlotsLaw : Type 0
 BlockSlotsLaw = (r : ℕ) (ps : List ℕ) → Sorted ps → (x c : ℕ) → x ≤ c → 0 < many r ps c
     → (x + offset_at r (laid r 0 ps) x ≤ last_slot r ps c)
     × (rank (runend_at r (laid r 0 ps)) (last_slot r ps c) ≡ tally (runend_at r (laid r 0 ps)) (x + offset_at r (laid r 0 ps) x) + (rank (occupied_at r ps) c - tally (occupied_at r ps) x))
 
+-- SELECT finds one place only
 abbrev pub SelectOneLaw : Type 0
 SelectOneLaw = (f : ℕ → ℕ) (k e d : ℕ) → Select f k e → Select f k d → e ≡ d
 
@@ -82,6 +87,7 @@ read_from slots r occ rem end (suc n) c s =
     (map (λ x. c * 2 ^ r + x) (run_from rem end slots (max c s)) ++ read_from slots r occ rem end n (suc c) (max c s + length (run_from rem end slots (max c s))))
     (read_from slots r occ rem end n (suc c) s)
 
+-- what is read back from the rows of a layout are the fingerprints that were laid out
 abbrev pub ReadLaw : Type 0
 ReadLaw = (slots r bound : ℕ) (ps : List ℕ) → Sorted ps → Roomy slots r ps → Every (λ p. quotient r p < bound) ps
     → read_from slots r (occupied_at r ps) (remainder_at r (laid r 0 ps)) (runend_at r (laid r 0 ps)) bound 0 0 ≡ ps
@@ -108,6 +114,7 @@ abbrev pub FreeLaw : Type 0
 FreeLaw = (r : ℕ) (ps : List ℕ) → Sorted ps → (c u : ℕ) → c ≤ u → used_at (laid r 0 ps) u ≡ 0
     → ((x : ℕ) → c ≤ x → x < u → used_at (laid r 0 ps) x ≡ 1) → FirstFree (many r ps) c u
 
+-- a quotient whose only entry is removed is no longer occupied, and all others stay as they were
 abbrev pub RemoveOccupiedLaw : Type 0
 RemoveOccupiedLaw = (r p : ℕ) (ps : List ℕ) (j : ℕ) → Sorted ps → j < many r ps (quotient r p) → slice_index (remainders r ps (quotient r p)) j ≡ remainder r p
     → (x : ℕ) → occupied_at r (remove p ps) x ≡ cond (x == quotient r p) (bit (nat_lt 1 (many r ps x))) (occupied_at r ps x)

@@ -58,9 +58,11 @@ pub record Lowered (m n : ℕ → ℕ) (c t : ℕ) : Type 0 where
   pub within : (x : ℕ) → c < x → x < t → suc (load n x) ≡ load m x
   pub after : (x : ℕ) → t ≤ x → load n x ≡ load m x
 
+-- one entry more raises the loads up to the first free slot
 abbrev pub InsertLaw : Type 0
 InsertLaw = (m n : ℕ → ℕ) (c u : ℕ) → OneMore m n c → FirstFree m c u → Raised m n c u
 
+-- one entry less lowers the loads up to the first slot at which nothing waits
 abbrev pub RemoveLaw : Type 0
 RemoveLaw = (m n : ℕ → ℕ) (c t : ℕ) → OneMore n m c → FirstIdle m c t → Lowered m n c t
 

@@ -70,6 +70,7 @@ abbrev pub InsertOffsetsLaw : Type 0
 InsertOffsetsLaw = (r p : ℕ) (ps : List ℕ) (u : ℕ) → Sorted ps → FirstFree (many r ps) (quotient r p) u → (x : ℕ)
     → offset_at r (laid r 0 (insert p ps)) x ≡ offset_at r (laid r 0 ps) x + bit (nat_lt (quotient r p) x && nat_le x u)
 
+-- and with one fingerprint less
 abbrev pub RemoveOffsetsLaw : Type 0
 RemoveOffsetsLaw = (r p : ℕ) (ps : List ℕ) (j t : ℕ) → Sorted ps → j < many r ps (quotient r p) → slice_index (remainders r ps (quotient r p)) j ≡ remainder r p
     → FirstIdle (many r ps) (quotient r p) t → (x : ℕ)

@@ -72,10 +72,11 @@ past h i s m l =
     ∙ ap ones (mod-pow-add (h * 2 ^ i + s) m i ∙ ap₂ (λ a b. a % 2 ^ m * 2 ^ i + b) (high h i l) (low h i l))
     ∙ ones_cat i (h % 2 ^ m) s l
 
-below_mono : (n i j : ℕ) → i ≤ j → ones_under n i ≤ ones_under n j
-below_mono n i zero l = let e : i ≡ 0 = omega arith in omega (arith, ap (ones_under n) e)
-below_mono n i (suc j) l =
-    ⊎_elim (λ (g : i < suc j). omega (arith, ap (ones_under n) (sym (add-one j)), (below_more n j).0, below_mono n i j (omega arith)))
+-- a later place has no fewer ones below it
+pub ones_mono : (n i j : ℕ) → i ≤ j → ones_under n i ≤ ones_under n j
+ones_mono n i zero l = let e : i ≡ 0 = omega arith in omega (arith, ap (ones_under n) e)
+ones_mono n i (suc j) l =
+    ⊎_elim (λ (g : i < suc j). omega (arith, ap (ones_under n) (sym (add-one j)), (below_more n j).0, ones_mono n i j (omega arith)))
     (λ (g : suc j ≤ i). let e : i ≡ suc j = omega arith in omega (arith, ap (ones_under n) e)) (cases_lt i (suc j))
 
 -- no ones past a number's width
@@ -86,7 +87,7 @@ none_past w k i n l g =
     let a : w % 2 ^ i ≡ w = mod-eq_of_lt (lt_of_lt_of_le l (pow_mono g)) in
     let b : w % 2 ^ n ≡ w = mod-eq_of_lt (lt_of_lt_of_le l (pow_mono (omega arith))) in
     omega (arith, below_is w i ∙ ap ones a, below_is w n ∙ ap ones b))
-    (λ (h : n ≤ i). below_mono w n i h) (cases_lt i n)
+    (λ (h : n ≤ i). ones_mono w n i h) (cases_lt i n)
 
 -- a number without its bits below place i has the ones from there on
 pub from_place : (w i n : ℕ) → ones_under (w / 2 ^ i * 2 ^ i) n ≡ ones_under w n - ones_under w i
@@ -105,7 +106,7 @@ from_place w i n =
       ap (ones_under w) at ∙ ap (λ a. ones_under a (m + i)) is ∙ past h i s m small,
       below_is w i,
     ))
-    (λ (g : n ≤ i). omega (arith, below_mono w n i g, below_is (h * 2 ^ i) n ∙ ap ones (multiple h i n g) ∙ ones_digit 0 (omega arith)))
+    (λ (g : n ≤ i). omega (arith, ones_mono w n i g, below_is (h * 2 ^ i) n ∙ ap ones (multiple h i n g) ∙ ones_digit 0 (omega arith)))
     (cases_lt i n)
 
 pub record Lowest (x t : ℕ) : Type 0 where

@@ -2,7 +2,7 @@
 use Rattle.std.proofs.Common.{◌≡◌, ℕ, zero, suc, ◌+◌, ◌*◌, ◌/◌, ◌%◌, ◌^◌, ◌<◌, ◌≤◌, ◌≢◌, ◌⊎◌, List, [], ◌∷◌, length, get_or, drop, set, sym, refl, ap, ◌∙◌, subst, ap₂, ⊎_elim, mul_assoc, add-mul, add_comm, mul-suc, div-one, add-one, arith, pow-add, shr-shr}
 use native.Mathlib.Nat.{zero-div, div-eq_of_lt}
 use lib.Pow.{high, low, split}
-use Rattle.std.proofs.lemmas.List.{get_or-set_other, set_past, get_or_past, length-set, ext_get_or}
+use Rattle.std.proofs.lemmas.List.{get_or-set_other, set_past, get_or_past, length-set}
 use Rattle.std.proofs.lemmas.Bool.{cases_lt}
 use Rattle.words.specs.Bits.{field, bit_at}
 use Rattle.words.specs.Row.{row_of}
@@ -36,11 +36,6 @@ bit_row ws h n =
     let e : 64 * (n / 64) + n % 64 ≡ n = omega arith in
     sym (ap (λ x. bit_at x (n % 64)) (word_is_field ws h (n / 64)) ∙ bit_field (row_of ws) (64 * (n / 64)) 64 (n % 64) (omega arith)
     ∙ ap (bit_at (row_of ws)) e)
-
--- rows of one length and one number are one
-pub row_ext : (xs ys : List ℕ) → Words xs → Words ys → length xs ≡ length ys → row_of xs ≡ row_of ys → xs ≡ ys
-row_ext xs ys hx hy l e =
-    ext_get_or 0 xs ys l (λ j _. word_is_field xs hx j ∙ ap (λ n. field n (64 * j) 64) e ∙ sym (word_is_field ys hy j))
 
 -- ---- the window: the word at j and the next one as one number
 

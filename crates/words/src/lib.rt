@@ -82,6 +82,30 @@ pub fn rank(w: u64, i: u32) -> u32
     ones_below(w, i.saturating_add(1))
 }
 
+/// `w` without its lowest one: 0 where it has none.
+fn without_lowest(w: u64) -> u64
+    ensures { (n : ℕ) → ones_under result n ≡ ones_under w n - 1 }
+{
+    w & w.wrapping_sub(1)
+}
+
+/// `w` without its `k` lowest ones: 0 where it has no more. A few go without a branch that depends on how many they are, the rest four at a time.
+fn without_ones(w: u64, k: u32) -> u64
+    ensures { (n : ℕ) → ones_under result n ≡ ones_under w n - k }
+{
+    let mut rest = w;
+    for _ in 0..k / 4 {
+        rest = without_lowest(without_lowest(without_lowest(without_lowest(rest))));
+    }
+    if k % 4 >= 2 {
+        rest = without_lowest(without_lowest(rest));
+    }
+    if k % 2 == 1 {
+        rest = without_lowest(rest);
+    }
+    rest
+}
+
 /// The place of the `k`-th one of `w`, counted from 1 at the lowest: none where there are fewer, or where `k` is 0.
 pub fn select(w: u64, k: u32) -> Option<u32>
     ensures { Selected w k result }
@@ -89,13 +113,7 @@ pub fn select(w: u64, k: u32) -> Option<u32>
     if k == 0 {
         return None;
     }
-    let mut rest = w;
-    for _ in 1..k {
-        if rest == 0 {
-            return None;
-        }
-        rest &= rest - 1;
-    }
+    let rest = without_ones(w, k - 1);
     if rest == 0 {
         None
     } else {

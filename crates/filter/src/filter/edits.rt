@@ -14,7 +14,7 @@ impl Filter<'_> {
         if !self.plan.admits(fingerprint) {
             return Err(FilterFault::WideFingerprint);
         }
-        Ok(self.layout().find(fingerprint).is_some())
+        Ok(self.layout().has(fingerprint))
     }
 
     /// Adds one more entry of a fingerprint, equal ones included. Refused where it is no fingerprint under the plan, and then where some quotient

@@ -22,7 +22,7 @@ impl Layout<'_> {
         let quotient = quotient_of(self.blocks.width, fingerprint);
         let remainder = remainder_of(self.blocks.width, fingerprint);
         let Run { from, to } = self.run_of(quotient);
-        let free = self.first_free(to)?;
+        let free = self.first_free(quotient, to)?;
         let at = self.seek(from, to, remainder);
         let ends = at.0 == to.0;
         Some(Arrival {
@@ -43,7 +43,7 @@ impl Layout<'_> {
             (λ d. Departs (bits_of self.now) self.now.count (entries self.now) fingerprint d.quotient.0 d.at.0 d.gap.0 d.follows d.only) }
     {
         let place = self.find(fingerprint)?;
-        let idle = self.first_idle(Slot(place.to.0 - 1));
+        let idle = self.first_idle(place.quotient, place.to);
         let last = place.at.0 + 1 == place.to.0;
         Some(Departure {
             quotient: place.quotient,

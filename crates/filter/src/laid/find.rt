@@ -1,5 +1,5 @@
 //! Finds the entries of a fingerprint.
-ghost use Rattle.std.specs.Prelude.{◌≡◌, ℕ, ◌+◌, ◌*◌, ◌^◌, ◌<◌, ◌≤◌, MatchOption, ◌≢◌};
+ghost use Rattle.std.specs.Prelude.{◌≡◌, ℕ, ◌+◌, ◌*◌, ◌^◌, ◌<◌, ◌≤◌, MatchOption, ◌≢◌, true, false, nat_lt};
 ghost use Rattle.layout.specs.Rule.{quotient};
 ghost use Rattle.layout.specs.Laws.{count};
 ghost use Rattle.layout.specs.Load.{start};
@@ -67,5 +67,23 @@ impl Layout<'_> {
             return None;
         }
         self.in_run(c, remainder_of(self.blocks.width, fingerprint))
+    }
+
+    /// Whether an entry of the run of quotient `c` has that remainder.
+    fn run_has(&self, c: Quotient, rem: u32) -> bool
+        ensures yes { result ≡ true → (s : ℕ) × InRun (many_of self.now) c.0 s × (remainders_of self.now s ≡ rem) }
+        ensures not { result ≡ false → (s : ℕ) → InRun (many_of self.now) c.0 s → remainders_of self.now s ≢ rem }
+    {
+        let Run { from, to } = self.run_of(c);
+        (from.0..to.0).any(|s| self.blocks.remainder(Slot(s)) == rem)
+    }
+
+    /// Whether an entry has the fingerprint.
+    pub(crate) fn has(&self, fingerprint: u64) -> bool
+        requires { quotient (bits_of self.now) fingerprint < 2 ^ 32 }
+        ensures { result ≡ nat_lt 0 (count fingerprint (entries self.now)) }
+    {
+        let c = quotient_of(self.blocks.width, fingerprint);
+        self.blocks.occupied(c) && self.run_has(c, remainder_of(self.blocks.width, fingerprint))
     }
 }

@@ -1,7 +1,8 @@
 //! Where runs start and stop, by the runends from their quotients on.
-ghost use Rattle.std.specs.Prelude.{◌≡◌, ℕ, ◌+◌, ◌^◌, ◌<◌, ◌≤◌, MatchOption};
+ghost use Rattle.std.specs.Prelude.{◌≡◌, ℕ, ◌+◌, ◌-◌, ◌^◌, ◌<◌, ◌≤◌, MatchOption};
 ghost use Rattle.layout.specs.Load.{load, start, tally, FirstFree, FirstIdle};
-ghost use Rattle.filter.specs.Locating.{RunsAhead, AfterRunends};
+ghost use Rattle.blocks.specs.Searches.{AfterRunends};
+ghost use Rattle.filter.specs.Locating.{RunsAhead};
 ghost use Rattle.filter.specs.Slots.{RunEnds};
 ghost use Rattle.filter.specs.Layouts.{bits_of, words_in, entries, many_of, runends_of, slots_in};
 
@@ -50,7 +51,6 @@ impl Layout<'_> {
     }
 
     /// The slot at which the run of `c` starts, or would start.
-    #[inline(always)]
     pub(crate) fn start_of(&self, c: Quotient) -> Slot
         ensures { result.0 ≡ start (many_of self.now) c.0 }
     {
@@ -67,9 +67,10 @@ impl Layout<'_> {
         self.after_runends(ahead.from, ahead.runs + own)
     }
 
-    /// The slots of the run of `c`.
-    #[inline(always)]
-    pub(crate) fn run_of(&self, c: Quotient) -> Run
+    /// The slots of the run of `c`, from block to block.
+    #[cold]
+    #[inline(never)]
+    fn far_run_of(&self, c: Quotient) -> Run
         ensures from { result.from.0 ≡ start (many_of self.now) c.0 }
         ensures to { result.to.0 ≡ start (many_of self.now) c.0 + many_of self.now c.0 }
     {
@@ -77,6 +78,27 @@ impl Layout<'_> {
         let own = u32::from(self.blocks.occupied(c));
         let to = self.after_runends(from, own);
         Run { from, to }
+    }
+
+    /// The slots of the run of `c`: for most quotients the runends of its own block tell.
+    // inlined, since a question needs little more than this
+    #[inline(always)]
+    pub(crate) fn run_of(&self, c: Quotient) -> Run
+        ensures from { result.from.0 ≡ start (many_of self.now) c.0 }
+        ensures to { result.to.0 ≡ start (many_of self.now) c.0 + many_of self.now c.0 }
+    {
+        let Some(next) = self.blocks.next_run(c) else {
+            return self.far_run_of(c);
+        };
+        let to = if self.blocks.occupied(c) {
+            Slot(next.end.0 + 1)
+        } else {
+            next.start
+        };
+        Run {
+            from: next.start,
+            to,
+        }
     }
 
     /// The last slot of the run of `c`: none where it has no entry.
@@ -91,38 +113,45 @@ impl Layout<'_> {
         }
     }
 
-    /// The first free slot at or after slot `from`: none where there is none below the last.
-    pub(crate) fn first_free(&self, from: Slot) -> Option<Slot>
+    /// The first free slot at or after slot `stop`, where the run of `c` stops: none where there is none below the last.
+    pub(crate) fn first_free(&self, c: Quotient, stop: Slot) -> Option<Slot>
+        requires { stop.0 ≡ start (many_of self.now) c.0 + many_of self.now c.0 }
         ensures { MatchOption result
-            ((x : ℕ) → from.0 ≤ x → x < slots_in self.now → 0 < load (many_of self.now) x + many_of self.now x)
-            (λ u. FirstFree (many_of self.now) from.0 u.0 × (u.0 < slots_in self.now)) }
+            ((x : ℕ) → stop.0 ≤ x → x < slots_in self.now → 0 < load (many_of self.now) x + many_of self.now x)
+            (λ u. FirstFree (many_of self.now) stop.0 u.0 × (u.0 < slots_in self.now)) }
     {
-        // kept: `x` jumps to where the run before it stops, so no range counts it, and `successors` would ask for each stop twice
-        let mut x = from.0;
+        // kept: `x` jumps to where the runs of all quotients up to it stop, so no range counts it, and `successors` would count them twice
+        let mut past = c.0;
+        let mut x = stop.0;
         while x < 64 * self.count {
-            let stop = self.stop_of(Quotient(x));
-            if stop.0 == x {
+            let more = self.blocks.occupied_after(Quotient(past), Quotient(x));
+            if more == 0 {
                 return Some(Slot(x));
             }
-            x = stop.0;
+            past = x;
+            x = self.after_runends(Slot(x), more).0;
         }
         None
     }
 
-    /// The first slot after slot `s` at which no entry waits that has a quotient below it.
-    pub(crate) fn first_idle(&self, s: Slot) -> Slot
-        requires { s.0 < slots_in self.now }
-        ensures idle { FirstIdle (many_of self.now) s.0 result.0 }
+    /// The first slot at or after slot `stop`, where the run of `c` stops, at which no entry waits that has a quotient below it.
+    pub(crate) fn first_idle(&self, c: Quotient, stop: Slot) -> Slot
+        requires run { 0 < many_of self.now c.0 }
+        requires stop { stop.0 ≡ start (many_of self.now) c.0 + many_of self.now c.0 }
+        requires slots { stop.0 ≤ slots_in self.now }
+        ensures idle { FirstIdle (many_of self.now) (stop.0 - 1) result.0 }
         ensures bound { result.0 ≤ slots_in self.now }
     {
-        // kept: `x` jumps to where its run starts, so no range counts it, and `successors` would ask for each start twice
-        let mut x = s.0 + 1;
+        // kept: `x` jumps to where the runs of all quotients below it stop, as above
+        let mut past = c.0;
+        let mut x = stop.0;
         while x < 64 * self.count {
-            let start = self.start_of(Quotient(x));
-            if start.0 == x {
-                return start;
+            let more = self.blocks.occupied_after(Quotient(past), Quotient(x - 1));
+            if more == 0 {
+                return Slot(x);
             }
-            x = start.0;
+            past = x - 1;
+            x = self.after_runends(Slot(x), more).0;
         }
         Slot(x)
     }

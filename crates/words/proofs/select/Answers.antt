@@ -4,29 +4,16 @@ use Rattle.words.specs.Bits.{ones_under}
 use Rattle.words.proofs.Ones.{Lowest, lowest, below_more, below_zero}
 use Rattle.words.proofs.select.Goals as goal
 
-pub loop-init : goal.loop-init
-loop-init c = λ n. omega arith
-
 pub returns-then-rest-eq0 : goal.returns-then-rest-eq0
 returns-then-rest-eq0 c =
-    inr (omega (arith, c.loop.invariant 64, ap (λ x. ones_under x 64) c.if-rest-eq0.true ∙ below_zero 64))
+    inr (omega (arith, c.without_ones-rest.ensures 64, ap (λ x. ones_under x 64) c.if-rest-eq0.true ∙ below_zero 64))
 
-pub loop-preserved : goal.loop-preserved
-loop-preserved c =
-    let x = c.loop.rest in
-    let low : Lowest x (count_trailing_zeros 64 x) = lowest x (omega arith) (search rules) in
-    λ n. omega (arith, low.rest n, c.loop.invariant n)
-
-pub returns-then-rest-eq0-2 : goal.returns-then-rest-eq0-2
-returns-then-rest-eq0-2 c =
-    inr (omega (arith, c.loop.invariant 64, ap (λ x. ones_under x 64) c.if-rest-eq0-2.true ∙ below_zero 64))
-
-pub returns-else-rest-eq0-2 : goal.returns-else-rest-eq0-2
-returns-else-rest-eq0-2 c =
-    let x = c.loop.rest in
+pub returns-else-rest-eq0 : goal.returns-else-rest-eq0
+returns-else-rest-eq0 c =
+    let x = c.without_ones-rest.result in
     let t : ℕ = count_trailing_zeros 64 x in
     let low : Lowest x t = lowest x (omega arith) (search rules) in
-    let a = c.loop.invariant t in
-    let b = c.loop.invariant (t + 1) in
+    let a = c.without_ones-rest.ensures t in
+    let b = c.without_ones-rest.ensures (t + 1) in
     let m = below_more c.args.w t in
     (low.under, omega arith, omega arith)

@@ -1,42 +1,12 @@
-use Rattle.std.proofs.Common.{◌≡◌, ℕ, suc, ◌+◌, ◌-◌, ◌*◌, ◌/◌, ◌%◌, ◌<◌, ◌≤◌, List, length, get_or, Some, ap, ◌∙◌, inr, ⊎_elim, arith, rules}
-use Rattle.std.proofs.lemmas.Bool.{cases_lt}
-use Rattle.words.specs.Bits.{bit_at, ones_under, Selected}
+use Rattle.std.proofs.Common.{◌≡◌, ℕ, ◌+◌, ◌-◌, ◌*◌, ◌/◌, ◌%◌, ◌<◌, ◌≤◌, length, get_or, ap, ◌∙◌, inr, ⊎_elim, arith, rules}
+use Rattle.words.specs.Bits.{ones_under}
 use Rattle.layout.specs.Load.{tally}
 use Rattle.layout.proofs.Ranks.{tally_mono}
 use Rattle.blocks.specs.Views.{word_index, runend_in}
-use Rattle.blocks.specs.Searches.{FoundRunend}
-use Rattle.blocks.proofs.Tallies.{tally_more, ones_mono, ones_step, runend_bit, runend_ones, runend_most}
+use Rattle.words.proofs.Ones.{ones_mono}
+use Rattle.blocks.proofs.Tallies.{runend_ones, runend_most}
+use Rattle.blocks.proofs.Searching.{found}
 use Rattle.blocks.proofs.reading.Blocks.runend_from.Goals as goal
-
--- v has the ones of a block's second word from place i on: the k-th of them is the k-th runend from there on
-found : (r : ℕ) (ws : List ℕ) (b i k p w v : ℕ) → w ≡ get_or ws (word_index r b 1) 0 → i < 64
-    → ((n : ℕ) → ones_under v n ≡ ones_under w n - ones_under w i) → Selected v k (Some p) → FoundRunend r ws (64 * b + i) k (64 * b + p)
-found r ws b i k p w v e l rest s =
-    let next = ones_step w p in
-    let one = ones_step v p in
-    let after : i ≤ p =
-    ⊎_elim (λ (g : p < i). absurd (omega (arith, rest p, rest (suc p), one, s.1, ones_mono w (suc p) i g))) (λ (g : i ≤ p). g) (cases_lt p i) in
-    let mono = ones_mono w i p after in
-    record {
-      from = omega arith;
-      one = omega (arith, runend_bit r ws b p s.0, ap (λ x. bit_at x p) e, next, one, rest p, rest (suc p), s.1);
-      nth = omega (
-        arith,
-        tally_more (runend_in r ws) (64 * b + p),
-        runend_bit r ws b p s.0,
-        runend_ones r ws b p (omega (arith, s.0)),
-        runend_ones r ws b i (omega arith),
-        ap (λ x. bit_at x p) e,
-        ap (λ x. ones_under x p) e,
-        ap (λ x. ones_under x i) e,
-        next,
-        one,
-        rest p,
-        rest (suc p),
-        s.1,
-        s.2,
-      );
-    }
 
 pub returns-in_err-w : goal.returns-in_err-w
 returns-in_err-w c =

@@ -4,7 +4,7 @@ use Rattle.layout.specs.Format.{filter_words}
 use Rattle.layout.proofs.Bounds.{within_law}
 use Rattle.layout.proofs.Sorts.{after_sort}
 use Rattle.filter.specs.Filters.{words_of, slots_of}
-use Rattle.filter.proofs.Held.{is_sorted}
+use Rattle.layout.proofs.Bags.{is_sorted}
 use Rattle.filter.proofs.Promises.{few_of, over, list_facts, list_laid, list_crowds}
 use Rattle.filter.proofs.filter.Filter.lay_out.Goals as goal
 

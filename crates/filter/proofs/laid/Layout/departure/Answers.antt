@@ -1,13 +1,21 @@
-use Rattle.std.proofs.Common.{◌≡◌, ◌+◌, ◌-◌, ◌&&◌, eqb, ltb, refl, rules}
+use Rattle.std.proofs.Common.{◌≡◌, ◌+◌, ◌-◌, ◌&&◌, eqb, ltb, refl, sym, ap, ap₂, ◌∙◌, arith, rules}
+use Rattle.layout.specs.Load.{start}
 use Rattle.filter.specs.Arrivals.{Departs}
 use Rattle.filter.proofs.Edited.{departs, gone_room}
 use Rattle.filter.proofs.Sounds.{sound_of, placed_last, idle_past_placed}
-use Rattle.filter.specs.Layouts.{bits_of, entries}
+use Rattle.filter.specs.Layouts.{bits_of, entries, many_of}
 use Rattle.filter.proofs.laid.Layout.departure.Goals as goal
 use Rattle.filter.proofs.laid.Layout.departure.Goals.{Joined-place}
 
 pub first_idle-idle-requires : goal.first_idle-idle-requires
-first_idle-idle-requires c = placed_last c.args.self.now c.args.fingerprint _ _ _ _ c.in_ok-place.ensures
+first_idle-idle-requires c =
+    let m = many_of c.args.self.now in
+    let w = c.in_ok-place.ensures in
+    record {
+      run = omega (arith, ap m w.its_quotient, w.in_run.from, w.in_run.below);
+      stop = w.stops ∙ ap₂ ◌+◌ (w.starts ∙ sym (ap (start m) w.its_quotient)) (sym (ap m w.its_quotient));
+      slots = omega (arith, placed_last c.args.self.now c.args.fingerprint _ _ _ _ w);
+    }
 
 -- the entry that was found goes
 goes : (c : Joined-place) → Departs (bits_of c.args.self.now) c.args.self.now.count (entries c.args.self.now) c.args.fingerprint
