@@ -3,3 +3,4 @@ pub mod Weights
 pub mod Pairs
 pub mod Cuts
 pub mod Words
+pub mod Singles

@@ -6,6 +6,7 @@ use Rattle.figures.specs.declared.FigureFault.TheVariants.{Unreadable as NoFigur
 use Rattle.forms.specs.declared.fault.LineFault.{LineFault}
 use Rattle.forms.specs.declared.fault.LineFault.TheVariants.{LongLine, Unreadable, TooLarge, Key}
 
+-- the number that a customer sees
 abbrev pub number_of : LineFault → ℕ
 number_of LongLine = 53
 number_of Unreadable = 50

@@ -47,3 +47,7 @@ Meant line (Err Unreadable) = (length line ≤ 80) × ((s : Shape) → Written l
 Meant line (Err TooLarge) = (length line ≤ 80) × ((s : Shape) × Written line s × (InRange s → ⊥))
 Meant line (Err (Key BadSequence)) = (length line ≤ 80) × ((s : Shape) × Written line s × InRange s × NoSequence s)
 Meant line (Ok c) = (length line ≤ 80) × ((s : Shape) × Written line s × InRange s × Asks s c)
+
+-- the line means r, and nothing else
+abbrev pub OneMeaning : List ℕ → Result Command LineFault → Type 0
+OneMeaning line r = Meant line r × ((other : Result Command LineFault) → Meant line other → other ≡ r)

@@ -1,5 +1,5 @@
 //! Reading a line.
-ghost use Rattle.forms.specs.Meaning.{Meant};
+ghost use Rattle.forms.specs.Meaning.{OneMeaning};
 
 use crate::command::Command;
 use crate::fault::LineFault;
@@ -10,7 +10,7 @@ use kinds::Pair;
 
 /// What a line asks, without its byte 10. The first letters decide which form is read.
 pub fn command_of(line: &[u8]) -> Result<Command, LineFault>
-    ensures { Meant line.now result }
+    ensures { OneMeaning line.now result }
 {
     if line.len() > 80 {
         return Err(LineFault::LongLine);
