@@ -1,5 +1,5 @@
-//! What the programs over one filter share: the request that their arguments make, the words of
-//! the filter and how they are printed, and how a program ends.
+//! What kernwords and filterlog share: the request that their arguments make, the words of a
+//! filter and how they are printed, what is sent, and how a program ends.
 #![tactic(auto)]
 
 pub mod fault;
@@ -8,3 +8,4 @@ pub mod request;
 pub mod storage;
 #[cfg(test)]
 mod tests;
+pub mod text;

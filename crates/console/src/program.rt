@@ -1,14 +1,17 @@
 //! How a program runs and ends.
-ghost use Rattle.std.specs.Prelude.{◌≡◌, ◌⊎◌, MatchResult, OnOk, Some};
+ghost use Rattle.std.specs.Prelude.{◌≡◌, ◌⊎◌, drop, MatchResult, IfOk, IfErr, OnOk, Err, Some};
+ghost use Rattle.std.specs.IoError.{error_kind};
+ghost use Rattle.std.specs.Io.Buffered.{writer_contents};
 ghost use Rattle.std.specs.Io.KnownBytes.{Appends};
 ghost use Rattle.console.specs.declared.fault.Fault.TheVariants.{Memory, Stream, Arguments};
 ghost use Rattle.console.specs.Texts.{refused_text, stop_text};
-ghost use Rattle.console.specs.Endings.{last_text, Ended, Performed};
+ghost use Rattle.console.specs.Endings.{last_text, Ended, Served, Unserved, Performed};
 
 use crate::fault::Fault;
 use crate::request::Request;
+use crate::text::read_fault;
 use filter::FilterFault;
-use std::io::{BufWriter, Stdout, Write};
+use std::io::{BufWriter, ErrorKind, Stdout, Write};
 use std::process::ExitCode;
 use std::{env, fmt, io};
 
@@ -58,19 +61,30 @@ impl fmt::Display for Stop<'_> {
 
 // Why the arguments cannot be read: one that is no text is none that a program takes.
 fn arguments_fault(error: io::Error) -> Fault
-    ensures { (result ≡ Arguments) ⊎ ((result ≡ Memory) ⊎ (result ≡ Stream)) }
+    ensures text { error_kind error ≡ ErrorKind.InvalidData → result ≡ Arguments }
+    ensures either { (result ≡ Arguments) ⊎ ((result ≡ Memory) ⊎ (result ≡ Stream)) }
 {
     match error.kind() {
-        io::ErrorKind::InvalidData => Fault::Arguments,
-        io::ErrorKind::OutOfMemory => Fault::Memory,
-        _ => Fault::Stream,
+        ErrorKind::InvalidData => Fault::Arguments,
+        _ => read_fault(error),
     }
 }
 
-/// Ends what a program prints: a refusal is its last line.
-fn conclude<W: Write>(out: &mut W, done: Result<(), Fault>) -> Result<(), Fault>
-    ensures printed { OnOk result (Appends (W.contents out.old) (W.contents out.new) (last_text done)) }
+/// The words of a program's arguments: its own name stands before them.
+fn words_of(arguments: &[String]) -> &[String]
+    ensures { result.now ≡ drop 1 arguments.now }
+{
+    match arguments {
+        [_, words @ ..] => words,
+        [] => &[],
+    }
+}
+
+/// Ends what a program prints: a refusal is its last line. The writer is handed back with all of it.
+fn conclude<W: Write + Drop>(mut out: BufWriter<W>, done: Result<(), Fault>) -> Result<W, Fault>
+    ensures sent { IfOk result (λ sent. Appends (writer_contents W.contents out) (W.contents sent) (last_text done)) }
     ensures ended { OnOk result (Ended done) }
+    ensures stopped { IfErr result (λ fault. (fault ≡ Stream) ⊎ ((done ≡ Err fault) × (Ended done → ⊥))) }
 {
     match done {
         Ok(()) => {}
@@ -78,7 +92,22 @@ fn conclude<W: Write>(out: &mut W, done: Result<(), Fault>) -> Result<(), Fault>
         Err(fault) => return Err(fault),
     }
     out.flush()?;
-    Ok(())
+    let (sent, _) = out.into_parts();
+    Ok(sent)
+}
+
+/// Prints to a writer what the arguments ask for, and hands the writer back.
+fn serve<
+    W: Write + Drop,
+    F: FnOnce(&HostRuntime, &mut BufWriter<W>, Option<Request>) -> Result<(), Fault>,
+>(rt: &HostRuntime, arguments: &[String], to: W, print: F) -> Result<W, Fault>
+    requires { F.IsAlwaysCallable print }
+    ensures { MatchResult result (Served W.contents (F.post print rt.entry) arguments.now to) (Unserved (F.post print rt.entry) arguments.now) }
+{
+    let request = Request::of(words_of(arguments))?;
+    let mut out = BufWriter::new(rt.alloc(), to)?;
+    let done = print(rt, &mut out, request);
+    conclude(out, done)
 }
 
 impl Program {
@@ -87,16 +116,11 @@ impl Program {
         F: FnOnce(&HostRuntime, &mut BufWriter<Stdout>, Option<Request>) -> Result<(), Fault>,
     >(&self, rt: &HostRuntime, print: F) -> Result<(), Fault>
         requires { F.IsAlwaysCallable print }
-        ensures { OnOk result (Performed (F.post print rt.entry)) }
+        ensures { OnOk result (Performed ⟦<Stdout as Write>⟧.contents (F.post print rt.entry)) }
     {
-        let words: Vec<String> = env::args(rt)
-            .map_err(arguments_fault)?
-            .skip(1)
-            .collect(rt.alloc())?;
-        let request = Request::of(words.as_slice())?;
-        let mut out = BufWriter::new(rt.alloc(), rt.stdout())?;
-        let done = print(rt, &mut out, request);
-        conclude(&mut out, done)
+        let arguments: Vec<String> = env::args(rt).map_err(arguments_fault)?.collect(rt.alloc())?;
+        serve(rt, arguments.as_slice(), rt.stdout(), print)?;
+        Ok(())
     }
 
     /// The status that the program ends with. Where it stops, it says why on standard error.
@@ -120,7 +144,7 @@ impl Program {
         F: FnOnce(&HostRuntime, &mut BufWriter<Stdout>, Option<Request>) -> Result<(), Fault>,
     >(&self, rt: &HostRuntime, print: F) -> ExitCode
         requires { F.IsAlwaysCallable print }
-        ensures { ((result ≡ ExitCode.SUCCESS) × Performed (F.post print rt.entry)) ⊎ (result ≡ ExitCode.FAILURE) }
+        ensures { ((result ≡ ExitCode.SUCCESS) × Performed ⟦<Stdout as Write>⟧.contents (F.post print rt.entry)) ⊎ (result ≡ ExitCode.FAILURE) }
     {
         self.status(rt, self.perform(rt, print))
     }

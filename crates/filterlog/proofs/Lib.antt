@@ -1,1 +1,3 @@
 pub mod Spelling
+pub mod Beginning
+pub mod Growing

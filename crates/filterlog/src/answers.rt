@@ -1,14 +1,15 @@
 //! What commands answer.
-ghost use Rattle.std.specs.Prelude.{[], ◌∷◌, Some};
+ghost use Rattle.std.specs.Prelude.{◌≡◌, [], ◌∷◌, IfOk, Some};
 ghost use Rattle.std.specs.Fmt.{decimal};
 ghost use Rattle.std.specs.List.{join_by};
-ghost use Rattle.filterlog.specs.Answers.{answer_text};
+ghost use Rattle.filterlog.specs.Answers.{has_text, edit_text, answer_text};
+ghost use Rattle.filterlog.specs.Runs.{Told};
 
-use crate::commands::Command;
-use console::fault::Fault;
+use crate::commands::Question;
+use console::program::Refused;
 use console::storage::Blocks;
-use filter::{Filter, Quotient};
-use std::alloc::Global;
+use filter::{Filter, FilterFault, Quotient};
+use std::alloc::{AllocError, Global};
 use std::fmt;
 
 /// Numbers, printed with a space between two.
@@ -30,11 +31,13 @@ impl fmt::Display for Spaced<'_> {
     }
 }
 
-/// What a command answers.
+/// What a line of the log is answered.
 #[derive(Drop)]
 pub(crate) enum Answer<'a> {
     /// The edit is done.
     Done,
+    /// The filter refuses.
+    Refused(FilterFault),
     /// Whether an entry has the fingerprint.
     Found(bool),
     /// How many entries there are.
@@ -53,6 +56,7 @@ impl fmt::Display for Answer<'_> {
     fn fmt<W: fmt::Write>(&self, f: &mut fmt::Formatter<W>) -> fmt::Result {
         match self {
             Answer::Done => writeln!(f, "ok"),
+            Answer::Refused(fault) => writeln!(f, "{}", Refused(*fault)),
             Answer::Found(true) => writeln!(f, "yes"),
             Answer::Found(false) => writeln!(f, "no"),
             Answer::Held(held) => writeln!(f, "{held}"),
@@ -66,25 +70,41 @@ impl fmt::Display for Answer<'_> {
     }
 }
 
-/// Runs a command on the filter.
-pub(crate) fn answer_of<'a>(
-    heap: Global,
-    filter: &'a mut Filter<'_>,
-    command: Command,
-) -> Result<Answer<'a>, Fault> {
-    Ok(match command {
-        Command::Add(n) => {
-            filter.add(n)?;
-            Answer::Done
+impl<'a> Answer<'a> {
+    /// The answer to an edit.
+    pub(crate) fn done(edit: Result<(), FilterFault>) -> Answer<'a>
+        ensures { answer_text result ≡ edit_text edit }
+    {
+        match edit {
+            Ok(()) => Answer::Done,
+            Err(fault) => Answer::Refused(fault),
         }
-        Command::Take(n) => {
-            filter.take(n)?;
-            Answer::Done
+    }
+
+    /// The answer to whether an entry has a fingerprint.
+    fn found(there: Result<bool, FilterFault>) -> Answer<'a>
+        ensures { answer_text result ≡ has_text there }
+    {
+        match there {
+            Ok(there) => Answer::Found(there),
+            Err(fault) => Answer::Refused(fault),
         }
-        Command::Has(n) => Answer::Found(filter.has(n)?),
-        Command::Held => Answer::Held(filter.held()),
-        Command::Slot(s) => Answer::Entry(filter.slot(s)),
-        Command::Words => Answer::Words(Blocks::of(filter.plan(), filter.words())),
-        Command::List => Answer::List(filter.fingerprints(heap)?),
-    })
+    }
+
+    /// The answer to a question about the filter.
+    pub(crate) fn of(
+        heap: Global,
+        filter: &'a Filter<'_>,
+        question: Question,
+    ) -> Result<Answer<'a>, AllocError>
+        ensures { IfOk result (λ a. Told filter.now question (answer_text a)) }
+    {
+        Ok(match question {
+            Question::Has(n) => Answer::found(filter.has(n)),
+            Question::Held => Answer::Held(filter.held()),
+            Question::Slot(s) => Answer::Entry(filter.slot(s)),
+            Question::Words => Answer::Words(Blocks::of(filter.plan(), filter.words())),
+            Question::List => Answer::List(filter.fingerprints(heap)?),
+        })
+    }
 }

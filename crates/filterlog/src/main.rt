@@ -1,15 +1,20 @@
 //! Reads a log of commands from standard input, runs them on one filter, and prints what each answers.
 #![tactic(auto)]
 
+ghost use Rattle.std.specs.Prelude.{None};
+ghost use Rattle.filterlog.specs.Runs.{LineDone};
+ghost use Rattle.filterlog.specs.Logs.{LogDone};
+
 mod answers;
 mod commands;
 
-use answers::answer_of;
-use commands::command_of;
+use answers::Answer;
+use commands::{Command, command_of};
 use console::fault::Fault;
-use console::program::{Program, Refused};
+use console::program::Program;
 use console::request::Request;
 use console::storage::blank;
+use console::text::read_text;
 use figures::lines::Lines;
 use filter::Filter;
 use std::alloc::Global;
@@ -22,41 +27,54 @@ const FILTERLOG: Program = Program {
     arguments: "q r blocks",
 };
 
-/// Runs the command that a line is, and prints what it answers, or the number of its refusal.
+/// Runs the command that a line is, and prints what it answers.
 fn print_answer<W: Write>(
     heap: Global,
     out: &mut W,
     filter: &mut Filter<'_>,
     line: &[u8],
-) -> Result<(), Fault> {
-    let Some(command) = command_of(line) else {
-        writeln!(out, "unreadable")?;
-        return Ok(());
-    };
-    match answer_of(heap, filter, command) {
-        Ok(answer) => write!(out, "{answer}")?,
-        Err(Fault::Filter(fault)) => writeln!(out, "{}", Refused(fault))?,
-        Err(fault) => return Err(fault),
+) -> Result<(), Fault>
+    ensures { LineDone line.now filter.old filter.new (W.contents out.old) (W.contents out.new) result }
+{
+    match command_of(line) {
+        Some(Command::Add(n)) => Ok(write!(out, "{}", Answer::done(filter.add(n)))?),
+        Some(Command::Take(n)) => Ok(write!(out, "{}", Answer::done(filter.take(n)))?),
+        Some(Command::Ask(question)) => {
+            Ok(write!(out, "{}", Answer::of(heap, filter, question)?)?)
+        }
+        None => Ok(writeln!(out, "unreadable")?),
+    }
+}
+
+/// Runs the commands of a log, in order, on a filter that is empty at first, and prints what they answer.
+fn print_log<R: Read, W: Write>(
+    heap: Global,
+    log: &mut R,
+    out: &mut W,
+    request: Option<Request>,
+) -> Result<(), Fault>
+    ensures { LogDone request (R.remaining log.old) (W.contents out.old) (W.contents out.new) result }
+{
+    let request = request.ok_or(Fault::Arguments)?;
+    let plan = request.plan()?;
+    let text = read_text(heap, log)?;
+    let mut words = blank(heap, plan, request.blocks as usize)?;
+    let mut filter = Filter::begin(plan, words.as_mut_slice());
+    for line in Lines::of(text.as_slice()) {
+        print_answer(heap, out, &mut filter, line)?;
     }
     Ok(())
 }
 
-/// Runs the commands on standard input, in order, on a filter that is empty at first.
+/// Prints the answers to the log on standard input.
 fn print_answers<W: Write>(
     rt: &HostRuntime,
     out: &mut W,
     request: Option<Request>,
-) -> Result<(), Fault> {
-    let request = request.ok_or(Fault::Arguments)?;
-    let plan = request.plan()?;
-    let mut text = Vec::new(rt.alloc());
-    rt.stdin().read_to_end(&mut text)?;
-    let mut words = blank(rt.alloc(), plan, request.blocks as usize)?;
-    let mut filter = Filter::begin(plan, words.as_mut_slice());
-    for line in Lines::of(text.as_slice()) {
-        print_answer(rt.alloc(), out, &mut filter, line)?;
-    }
-    Ok(())
+) -> Result<(), Fault>
+    ensures { LogDone request None (W.contents out.old) (W.contents out.new) result }
+{
+    print_log(rt.alloc(), &mut rt.stdin(), out, request)
 }
 
 fn main(rt: HostRuntime) -> ExitCode {

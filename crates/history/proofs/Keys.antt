@@ -1,20 +1,14 @@
 -- Keys that are the same, and lists of the same keys.
 use Rattle.std.proofs.Common.{◌≡◌, ℕ, ◌+◌, ◌<◌, Bool, true, false, eqb, ◌⊎◌, List, [], ◌∷◌, map, length, sym, refl, ap, ◌∙◌, inl, inr, ⊎_elim, arith}
-use Rattle.std.proofs.lemmas.Slice.Eq.{bytes_eq-Decides}
 use Rattle.std.proofs.lemmas.Bool.{eq-eqb, cond-true, cases_Bool}
 use Rattle.kinds.specs.Keys.{same_key}
 use Rattle.layout.specs.Rule.{bit}
 use Rattle.layout.specs.Laws.{count}
 use Rattle.layout.proofs.Sorts.{count_here}
+use Rattle.tables.proofs.Options.{same_is, same_refl}
 use Rattle.history.specs.History.{times}
 use Rattle.history.proofs.Weights.{weigh, weigh_ones, weigh_same}
 use Rattle.history.proofs.Entries.{Alike}
-
-pub same_is : {K : Type 0} (bytes : K → List ℕ) (apart : (a b : K) → bytes a ≡ bytes b → a ≡ b) (a b : K) → same_key bytes a b ≡ true → a ≡ b
-same_is bytes apart a b h = apart a b ((bytes_eq-Decides (bytes a) (bytes b)).0 h)
-
-pub same_refl : {K : Type 0} (bytes : K → List ℕ) (a : K) → same_key bytes a a ≡ true
-same_refl bytes a = (bytes_eq-Decides (bytes a) (bytes a)).1 refl
 
 -- two keys are one, or not
 pub one_key : {K : Type 0} (bytes : K → List ℕ) (apart : (a b : K) → bytes a ≡ bytes b → a ≡ b) (a b : K) → (a ≡ b) ⊎ (a ≡ b → ⊥)

@@ -9,7 +9,8 @@ use Rattle.tables.specs.Meaning.{Meaning, Revalued}
 use Rattle.tables.specs.declared.record.Record.{Record}
 use Rattle.history.specs.History.{times, Current}
 use Rattle.history.proofs.Entries.{Alike}
-use Rattle.history.proofs.Keys.{same_is, times_cons, numbers_same}
+use Rattle.tables.proofs.Options.{same_is}
+use Rattle.history.proofs.Keys.{times_cons, numbers_same}
 
 pub length_keys : {K V : Type 0} (rows : List (Option (Record K V))) → length (keys_of rows) ≡ count rows
 unfolding keys_of count

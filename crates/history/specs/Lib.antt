@@ -2,3 +2,4 @@ pub mod Faults
 pub mod Rules
 pub mod History
 pub mod Texts
+pub mod Beginnings

@@ -1,26 +1,27 @@
 -- From the law of a replay to what a book over fresh words did.
 use Rattle.std.proofs.Common.{◌≡◌, ℕ, zero, suc, ◌+◌, ◌<◌, ◌≤◌, List, [], ◌∷◌, map, length, take, drop, replicate, None, Ok, Err, Option, Vec, Result, vec_items, sym, ap, refl, ◌∙◌, subst, subst₂, mul-div_cancel, arith, MatchResult}
 use Rattle.std.proofs.lemmas.List.{take_at}
-use Rattle.layout.specs.Rule.{Crowded}
 use Rattle.layout.specs.Format.{filter_words, block_count}
 use Rattle.filter.specs.Cuts.{cut_to}
 use Rattle.filter.specs.Meaning.{size_of}
 use Rattle.filter.specs.Filters.{Crowds, words_of, slots_of, laid_over}
 use Rattle.filter.specs.declared.plan.Plan.{Plan}
 use Rattle.filter.specs.declared.filter.Filter.{Filter}
-use Rattle.filter.proofs.Held.{words_length}
+use Rattle.filter.proofs.Held.{front}
+use Rattle.tables.proofs.Lookups.{lookup_none}
 use Rattle.tables.specs.Rows.{lookup, keys_of, Apart}
 use Rattle.tables.specs.Meaning.{Meaning, value_in, held_in}
 use Rattle.listtable.specs.Lists.{empty_list}
 use Rattle.history.specs.Rules.{Answer}
-use Rattle.history.specs.History.{paired, Current, Lawful}
+use Rattle.history.specs.History.{paired, Lawful}
 use Rattle.history.specs.declared.operation.Operation.{Operation}
 use Rattle.history.proofs.Rolls.{length_keys, current_keys}
 use Rattle.book.specs.Books.{fingerprints_of}
 use Rattle.replay.specs.Replays.{Replayed, ReplayDone}
 use Rattle.replay.specs.declared.fault.ReplayFault.{ReplayFault}
 use Rattle.replay.specs.declared.fault.ReplayFault.TheVariants.{NoMemory, Opening}
-use Rattle.kernwords.specs.Books.{terms_over, nothing, list_terms, Ran, Begun}
+use Rattle.history.specs.Beginnings.{nothing, list_terms}
+use Rattle.kernwords.specs.Books.{terms_over, Ran, Begun}
 
 -- nothing crowds no quotient
 none_crowds : (plan : Plan) (slots : ℕ) (ps : List ℕ) → ps ≡ [] → Crowds plan slots ps → ⊥
@@ -29,17 +30,14 @@ none_crowds plan slots (p ∷ ps) e more = omega (arith, ap length e)
 
 module _ {K V : Type 0} (bytes : K → List ℕ) (number : K → ℕ) (plan : Plan) (blocks : ℕ) (f g : Filter) (m n : Meaning K V) (ops : List (Operation K V)) (ws : List ℕ)
     (ep : f.plan ≡ plan) (eb : f.blocks ≡ blocks) (ew : ws ≡ words_of g) where
-  -- the words of the blocks
-  front : (ps : List ℕ) → words_of g ≡ laid_over f.plan.r f.blocks ps (words_of f) → take (size_of f.plan.r f.blocks) ws ≡ filter_words f.plan.r f.blocks ps
-  front ps e = ap (take (size_of f.plan.r f.blocks)) (ew ∙ e) ∙ take_at (filter_words f.plan.r f.blocks ps) (drop (size_of f.plan.r f.blocks) (words_of f)) (size_of f.plan.r f.blocks) (words_length f.plan.r f.blocks ps)
-
   replayed : (answers : List (Answer V)) → Replayed bytes number f g m n ops answers
       → Ran (terms_over bytes number plan blocks m) blocks (value_in bytes m) (value_in bytes n) ops answers (take (size_of plan.r blocks) ws)
   replayed answers r = record {
     all = r.all;
     lawful = subst₂ (λ (p : Plan) (b : ℕ). Lawful (terms_over bytes number p b m) (value_in bytes m) (paired ops answers)) ep eb r.lawful;
     follows = r.table;
-    laid = λ ks c. subst₂ (λ (p : Plan) (b : ℕ). take (size_of p.r b) ws ≡ filter_words p.r b (map (λ k. cut_to p (number k)) ks)) ep eb (front (map (λ k. cut_to f.plan (number k)) ks) (r.words ks c));
+    laid = λ ks c. subst₂ (λ (p : Plan) (b : ℕ). take (size_of p.r b) ws ≡ filter_words p.r b (map (λ k. cut_to p (number k)) ks)) ep eb
+        (ap (take (size_of f.plan.r f.blocks)) (ew ∙ r.words ks c) ∙ front f.plan.r f.blocks (map (λ k. cut_to f.plan (number k)) ks) (drop (size_of f.plan.r f.blocks) (words_of f)));
   }
 
   pub ran : {A : Type 0} (res : Result (Vec (Answer V) A) ReplayFault) → keys_of m.rows ≡ [] → ReplayDone bytes number f g m n ops res
@@ -47,17 +45,6 @@ module _ {K V : Type 0} (bytes : K → List ℕ) (number : K → ℕ) (plan : Pl
   ran (Ok answers) none d = replayed (vec_items answers) d
   ran (Err NoMemory) none d = refl
   ran (Err (Opening e)) none d = absurd (none_crowds f.plan (slots_of f) (fingerprints_of number f m) (ap (map (λ k. cut_to f.plan (number k))) none) d.0.1)
-
--- no place of an empty table holds a key
-pub keys_none : (K V : Type 0) (n : ℕ) → keys_of {K = K} {V = V} (replicate n None) ≡ []
-unfolding keys_of
-keys_none K V zero = refl
-keys_none K V (suc n) = keys_none K V n
-
-lookup_none : {K : Type 0} (V : Type 0) (bytes : K → List ℕ) (n : ℕ) (k : K) → lookup {V = V} bytes (replicate n None) k ≡ None
-unfolding lookup
-lookup_none V bytes zero k = refl
-lookup_none V bytes (suc n) k = lookup_none V bytes n k
 
 -- a book over a list that held nothing
 pub begun : {K V : Type 0} (bytes : K → List ℕ) → ((a b : K) → bytes a ≡ bytes b → a ≡ b) → (number : K → ℕ) (plan : Plan) (blocks capacity : ℕ) (m n : Meaning K V) (ops : List (Operation K V)) (answers : List (Answer V)) (held : ℕ) (ws : List ℕ)

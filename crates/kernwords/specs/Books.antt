@@ -1,5 +1,5 @@
 -- A book that performed operations: its law, by the operations and their answers alone.
-use Rattle.std.specs.Prelude.{◌≡◌, ℕ, ◌*◌, true, List, map, length, None, Option}
+use Rattle.std.specs.Prelude.{◌≡◌, ℕ, ◌*◌, List, map, length, Option}
 use Rattle.layout.specs.Format.{filter_words}
 use Rattle.filter.specs.Cuts.{cut_to}
 use Rattle.filter.specs.declared.plan.Plan.{Plan}
@@ -7,6 +7,7 @@ use Rattle.tables.specs.Meaning.{Meaning}
 use Rattle.history.specs.History.{paired, Follows, Current, Lawful}
 use Rattle.history.specs.declared.operation.Operation.{Operation}
 use Rattle.history.specs.Rules.{Terms, Answer}
+use Rattle.history.specs.Beginnings.{nothing}
 
 -- the terms of a book over a table, with a filter of that plan and so many blocks
 abbrev pub terms_over : {K V : Type 0} → (K → List ℕ) → (K → ℕ) → Plan → ℕ → Meaning K V → Terms K
@@ -30,22 +31,6 @@ pub record Ran {K V : Type 0} (t : Terms K) (blocks : ℕ) (before after : K →
   pub follows : Follows before (paired ops answers) after
   -- the words are those laid out from nothing with the fingerprints of the current keys, one for each key, however they are listed
   pub laid : (ks : List K) → Current t.bytes after ks → words ≡ filter_words t.plan.r blocks (map t.fingerprint ks)
-
--- no key has a value
-abbrev pub nothing : {K V : Type 0} → K → Option V
-nothing k = None
-
--- the terms of a book over a list of so many records: any key is admitted
-abbrev pub list_terms : {K : Type 0} → (K → List ℕ) → (K → ℕ) → Plan → ℕ → ℕ → Terms K
-list_terms bytes number plan blocks capacity =
-    record {
-      bytes = bytes;
-      fingerprint = λ k. cut_to plan (number k);
-      admits = λ k. true;
-      capacity = capacity;
-      plan = plan;
-      slots = 64 * blocks;
-    }
 
 -- What a book that held nothing answered to operations, how many keys it holds after the last, and the words of its filter's blocks.
 pub record Begun {K V : Type 0} (t : Terms K) (blocks : ℕ) (ops : List (Operation K V)) (answers : List (Answer V)) (held : ℕ) (words : List ℕ) : Type 0 where

@@ -1,6 +1,6 @@
 -- What is printed in answer to a text of edits.
-use Rattle.std.specs.Prelude.{◌≡◌, ℕ, ◌+◌, ◌*◌, min, List, [], ◌∷◌, ◌++◌, ℤ, flat_map, Ok, Err, codes, decimal, vec_items, Option, Result}
-use Rattle.std.specs.Io.KnownBytes.{Appends}
+use Rattle.std.specs.Prelude.{◌≡◌, ℕ, ◌+◌, ◌*◌, min, List, [], ◌∷◌, ◌++◌, ℤ, flat_map, Ok, Err, codes, decimal, vec_items, IfSome, Option, Result}
+use Rattle.std.specs.Io.KnownBytes.{Appends, IsAtEnd}
 use Rattle.figures.specs.Lines.{lines_of}
 use Rattle.kinds.specs.Bytes.{pair_bytes, sequence_bytes}
 use Rattle.kinds.specs.Hashes.{fibonacci, fnv}
@@ -14,7 +14,8 @@ use Rattle.console.specs.Texts.{blocks_text}
 use Rattle.console.specs.declared.fault.Fault.{Fault}
 use Rattle.console.specs.declared.fault.Fault.TheVariants.{Memory, Stream, Arguments, Filter}
 use Rattle.console.specs.declared.request.Request.{Request}
-use Rattle.kernwords.specs.Books.{list_terms, Begun}
+use Rattle.history.specs.Beginnings.{list_terms}
+use Rattle.kernwords.specs.Books.{Begun}
 use Rattle.kernwords.specs.Sizes.{KernSized, LigatureSized}
 use Rattle.kernwords.specs.declared.sizes.Size.{Size}
 use Rattle.kernwords.specs.declared.report.BookWords.{BookWords}
@@ -50,20 +51,23 @@ pub record Reported (size : Size) (text : List ℕ) (r : Report) : Type 0 where
   -- the refused lines, in order
   pub refused : vec_items r.refused ≡ refused_from 1 lines kern_answers ligature_answers
 
--- What is printed by a request and a text, where o and p are what was printed before and after: all that a report says of the text, with a kerning book of
--- the size that the request gives.
-pub record Printed (request : Option Request) (o p : Option (List ℕ)) : Type 0 where
+-- What is printed by a request and what is read, where given and left are what there was to read before and after, and o and p what was printed: all that a
+-- report says of the text, with a kerning book of the size that the request gives.
+pub record Printed (request : Option Request) (given left o p : Option (List ℕ)) : Type 0 where
   pub size : Size
   pub sized : KernSized request (Ok size)
+  -- the text is all that there was to read
   pub text : List ℕ
+  pub read : IfSome given (λ bytes. text ≡ bytes)
+  pub all : IsAtEnd left
   pub report : Report
   pub reported : Reported size text report
   pub said : Appends o p (report_text report)
 
--- The same, or why nothing is printed: a plan out of range, want of memory, or a stream that fails.
-abbrev pub PrintDone : Option Request → Option (List ℕ) → Option (List ℕ) → Result (Unit {0}) Fault → Type 0
-PrintDone request o p (Ok done) = Printed request o p
-PrintDone request o p (Err (Filter f)) = KernSized request (Err f) × (p ≡ o)
-PrintDone request o p (Err Arguments) = ⊥
-PrintDone request o p (Err Memory) = Unit {0}
-PrintDone request o p (Err Stream) = Unit {0}
+-- The same, or why nothing is printed: a plan out of range, and then nothing is read, want of memory, or a stream that fails.
+abbrev pub PrintDone : Option Request → Option (List ℕ) → Option (List ℕ) → Option (List ℕ) → Option (List ℕ) → Result (Unit {0}) Fault → Type 0
+PrintDone request given left o p (Ok done) = Printed request given left o p
+PrintDone request given left o p (Err (Filter f)) = KernSized request (Err f) × (left ≡ given) × (p ≡ o)
+PrintDone request given left o p (Err Arguments) = ⊥
+PrintDone request given left o p (Err Memory) = Unit {0}
+PrintDone request given left o p (Err Stream) = Unit {0}

@@ -1,6 +1,5 @@
 -- How large the books are.
 use Rattle.std.specs.Prelude.{◌≡◌, ℕ, ◌≤◌, min, Some, None, Ok, Err, Option, Result}
-use Rattle.filter.specs.declared.plan.Plan.{Plan}
 use Rattle.filter.specs.declared.fault.FilterFault.{FilterFault}
 use Rattle.filter.specs.declared.fault.FilterFault.TheVariants.{BadPlan}
 use Rattle.console.specs.declared.request.Request.{Request}

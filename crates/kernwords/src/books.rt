@@ -5,7 +5,8 @@ ghost use Rattle.filter.specs.Meaning.{size_of};
 ghost use Rattle.tables.specs.Rows.{keys_of};
 ghost use Rattle.tables.specs.Meaning.{value_in};
 ghost use Rattle.listtable.specs.Lists.{list_capacity};
-ghost use Rattle.kernwords.specs.Books.{terms_over, list_terms, Ran, Begun};
+ghost use Rattle.history.specs.Beginnings.{list_terms};
+ghost use Rattle.kernwords.specs.Books.{terms_over, Ran, Begun};
 
 use crate::sizes::Size;
 use book::Book;

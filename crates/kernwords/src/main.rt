@@ -10,8 +10,10 @@ mod sizes;
 use console::fault::Fault;
 use console::program::Program;
 use console::request::Request;
+use console::text::read_text;
 use report::report_of;
 use sizes::kern_size;
+use std::alloc::Global;
 use std::io::{Read, Write};
 use std::process::ExitCode;
 
@@ -21,22 +23,24 @@ const KERNWORDS: Program = Program {
     arguments: "[q r blocks]",
 };
 
-/// Prints what the edits on standard input make of two books that begin empty.
-fn print_books<W: Write>(
-    rt: &HostRuntime,
+/// Prints what the edits that are read make of two books that begin empty.
+fn print_books<R: Read, W: Write>(
+    heap: Global,
+    input: &mut R,
     out: &mut W,
     request: Option<Request>,
 ) -> Result<(), Fault>
-    ensures { PrintDone request (W.contents out.old) (W.contents out.new) result }
+    ensures { PrintDone request (R.remaining input.old) (R.remaining input.new) (W.contents out.old) (W.contents out.new) result }
 {
     let kern = kern_size(request)?;
-    let mut text = Vec::new(rt.alloc());
-    rt.stdin().read_to_end(&mut text)?;
-    let report = report_of(rt.alloc(), kern, text.as_slice())?;
+    let text = read_text(heap, input)?;
+    let report = report_of(heap, kern, text.as_slice())?;
     write!(out, "{report}")?;
     Ok(())
 }
 
 fn main(rt: HostRuntime) -> ExitCode {
-    KERNWORDS.run(&rt, print_books)
+    KERNWORDS.run(&rt, |rt, out, request| {
+        print_books(rt.alloc(), &mut rt.stdin(), out, request)
+    })
 }

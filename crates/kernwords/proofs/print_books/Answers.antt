@@ -1,5 +1,4 @@
 use Rattle.std.proofs.Common.{rules}
-use Rattle.kernwords.specs.Reports.{Printed}
 use Rattle.kernwords.proofs.print_books.Goals as goal
 
 pub returns : goal.returns
@@ -7,6 +6,8 @@ returns g c = record {
   size = c.in_ok-kern.kern;
   sized = search rules;
   text = c.as_slice.result.now;
+  read = search rules;
+  all = search rules;
   report = c.in_ok-report.report;
   reported = search rules;
   said = search rules;

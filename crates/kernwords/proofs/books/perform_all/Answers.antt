@@ -1,10 +1,11 @@
-use Rattle.std.proofs.Common.{◌≡◌, [], length, take, ap, ◌∙◌, rules}
+use Rattle.std.proofs.Common.{length, take, ap, ◌∙◌}
 use Rattle.layout.specs.Format.{block_count}
 use Rattle.filter.specs.Meaning.{size_of}
 use Rattle.tables.specs.Rows.{keys_of}
 use Rattle.tables.specs.Meaning.{Meaning}
 use Rattle.listtable.specs.Lists.{list_capacity, list_meaning}
-use Rattle.kernwords.proofs.Runs.{keys_none, begun}
+use Rattle.tables.proofs.Lookups.{keys_none}
+use Rattle.kernwords.proofs.Runs.{begun}
 use Rattle.kernwords.proofs.books.perform_all.Goals as goal
 
 pub perform_on-requires-clause-empty : goal.perform_on-requires-clause-empty

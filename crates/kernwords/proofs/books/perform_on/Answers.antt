@@ -1,4 +1,4 @@
-use Rattle.std.proofs.Common.{◌≡◌, length, sym, subst, rules}
+use Rattle.std.proofs.Common.{length, subst, rules}
 use Rattle.layout.specs.Format.{block_count}
 use Rattle.replay.specs.Replays.{ReplayDone}
 use Rattle.kernwords.proofs.Runs.{ran}

@@ -1,5 +1,4 @@
 use Rattle.std.proofs.Common.{refl, rules}
-use Rattle.kernwords.specs.Reports.{Kept, Reported}
 use Rattle.kernwords.proofs.report.report_of.Goals as goal
 
 pub returns : goal.returns

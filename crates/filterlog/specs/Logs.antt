@@ -1,0 +1,40 @@
+-- What is printed in answer to a whole log.
+use Rattle.std.specs.Prelude.{◌≡◌, ℕ, ◌≤◌, min, List, [], IfSome, Some, None, Ok, Err, Option, Result}
+use Rattle.std.specs.Io.KnownBytes.{Appends}
+use Rattle.figures.specs.Lines.{lines_of}
+use Rattle.filter.specs.Filters.{fingerprints}
+use Rattle.filter.specs.declared.fault.FilterFault.TheVariants.{BadPlan}
+use Rattle.filter.specs.declared.filter.Filter.{Filter}
+use Rattle.console.specs.declared.fault.Fault.{Fault}
+use Rattle.console.specs.declared.fault.Fault.TheVariants.{Memory, Stream, Arguments, Filter as Refuses}
+use Rattle.console.specs.declared.request.Request.{Request}
+use Rattle.filterlog.specs.Runs.{LinesRan}
+
+-- the filter that a request asks for, with at most 16,640 blocks, when it holds nothing
+pub record Begun (request : Request) (f : Filter) : Type 0 where
+  pub q : f.plan.q ≡ request.q
+  pub r : f.plan.r ≡ request.r
+  pub blocks : f.blocks ≡ min request.blocks 16640
+  pub empty : fingerprints f ≡ []
+
+-- What is printed by a request and a log, where o and p are what was printed before and after: the answers to its lines, in order. The log is all that the
+-- reader had left, where that is known.
+pub record Printed (request : Request) (left o p : Option (List ℕ)) : Type 0 where
+  pub log : List ℕ
+  pub read : IfSome left (λ bytes. log ≡ bytes)
+  pub before : Filter
+  pub after : Filter
+  pub begun : Begun request before
+  pub text : List ℕ
+  pub ran : LinesRan (lines_of log) before after text
+  pub said : Appends o p text
+
+-- The same, or why it is not printed to its end: no request, a plan out of range, want of memory, or a stream that fails.
+abbrev pub LogDone : Option Request → Option (List ℕ) → Option (List ℕ) → Option (List ℕ) → Result (Unit {0}) Fault → Type 0
+LogDone (Some request) left o p (Ok done) = Printed request left o p
+LogDone (Some request) left o p (Err (Refuses e)) = (e ≡ BadPlan) × (((6 ≤ request.q) × (request.q ≤ 20) × (1 ≤ request.r) × (request.r ≤ 32)) → ⊥) × (p ≡ o)
+LogDone (Some request) left o p (Err Arguments) = ⊥
+LogDone (Some request) left o p (Err Memory) = Unit {0}
+LogDone (Some request) left o p (Err Stream) = Unit {0}
+LogDone None left o p (Ok done) = ⊥
+LogDone None left o p (Err e) = (e ≡ Arguments) × (p ≡ o)

@@ -1,0 +1,51 @@
+-- What commands do to a filter, and what is printed of them.
+use Rattle.std.specs.Prelude.{◌≡◌, ℕ, ◌+◌, Bool, List, [], ◌∷◌, ◌++◌, length, Some, None, Ok, Err, Option, Result, codes}
+use Rattle.std.specs.Fmt.{decimal}
+use Rattle.std.specs.Io.KnownBytes.{Appends}
+use Rattle.layout.specs.Format.{filter_words}
+use Rattle.filter.specs.Slots.{slot_shown}
+use Rattle.filter.specs.Filters.{SameFilter, fingerprints, Added, Taken, Answered}
+use Rattle.filter.specs.declared.fault.FilterFault.{FilterFault}
+use Rattle.filter.specs.declared.filter.Filter.{Filter}
+use Rattle.console.specs.Texts.{blocks_text}
+use Rattle.console.specs.declared.fault.Fault.{Fault}
+use Rattle.console.specs.declared.fault.Fault.TheVariants.{Memory, Stream, Arguments, Filter as Refuses}
+use Rattle.filterlog.specs.Answers.{line_text, entry_text, list_text, edit_text, has_text}
+use Rattle.filterlog.specs.Commands.{Said}
+use Rattle.filterlog.specs.declared.commands.Command.{Command}
+use Rattle.filterlog.specs.declared.commands.Command.TheVariants.{Add, Take, Ask}
+use Rattle.filterlog.specs.declared.commands.Question.{Question}
+use Rattle.filterlog.specs.declared.commands.Question.TheVariants.{Has, Held, Slot, Words, List as Listed}
+
+-- what is printed in answer to a question about filter f
+abbrev pub Told : Filter → Question → List ℕ → Type 0
+Told f (Has n) text = (r : Result Bool FilterFault) × Answered f n r × (text ≡ has_text r)
+Told f Held text = text ≡ line_text (decimal (length (fingerprints f)))
+Told f (Slot s) text = text ≡ entry_text (slot_shown f.plan.r (fingerprints f) s.0)
+Told f Words text = text ≡ blocks_text (f.plan.r + 3) (filter_words f.plan.r f.blocks (fingerprints f))
+Told f Listed text = text ≡ list_text (fingerprints f)
+
+-- What a command makes of filter f, which is g, and what is printed of it. Questions leave the filter as it is, and so does a line that is no command.
+abbrev pub Ran : Option Command → Filter → Filter → List ℕ → Type 0
+Ran (Some (Add n)) f g text = SameFilter f g × ((r : Result (Unit {0}) FilterFault) × Added f g n r × (text ≡ edit_text r))
+Ran (Some (Take n)) f g text = SameFilter f g × ((r : Result (Unit {0}) FilterFault) × Taken f g n r × (text ≡ edit_text r))
+Ran (Some (Ask q)) f g text = (g ≡ f) × Told f q text
+Ran None f g text = (g ≡ f) × (text ≡ line_text (codes "unreadable"))
+
+-- the same of a line of the log
+abbrev pub LineRan : List ℕ → Filter → Filter → List ℕ → Type 0
+LineRan line f g text = (c : Option Command) × Said line c × Ran c f g text
+
+-- The same, where o and p are what was printed before and after; or why the program ends there: want of memory, with all as it was, or a stream that fails.
+-- A refusal is printed, and ends nothing.
+abbrev pub LineDone : List ℕ → Filter → Filter → Option (List ℕ) → Option (List ℕ) → Result (Unit {0}) Fault → Type 0
+LineDone line f g o p (Ok done) = (text : List ℕ) × LineRan line f g text × Appends o p text
+LineDone line f g o p (Err Memory) = (g ≡ f) × (p ≡ o)
+LineDone line f g o p (Err Stream) = Unit {0}
+LineDone line f g o p (Err Arguments) = ⊥
+LineDone line f g o p (Err (Refuses e)) = ⊥
+
+-- What the lines of a log make of filter f, each in turn, and what is printed of them.
+unfoldable pub LinesRan : List (List ℕ) → Filter → Filter → List ℕ → Type 0
+LinesRan [] f g text = (g ≡ f) × (text ≡ [])
+LinesRan (line ∷ lines) f g text = (h : Filter) × (first : List ℕ) × (more : List ℕ) × LineRan line f h first × LinesRan lines h g more × (text ≡ first ++ more)

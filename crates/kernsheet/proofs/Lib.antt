@@ -1,0 +1,4 @@
+pub mod Sofar
+pub mod Streams
+pub mod Books
+pub mod Histories

@@ -1,0 +1,62 @@
+-- What a sheet is answered by two books that begin empty. Nothing of the books stands here but what was asked of them and what they answered.
+use Rattle.std.specs.Prelude.{◌≡◌, ℕ, ◌+◌, ◌<◌, ◌≤◌, ◌⊎◌, List, [], ◌∷◌, ◌++◌, length, ℤ, Ok, Err, Option, Result, IfSome}
+use Rattle.kinds.specs.Bytes.{pair_bytes, sequence_bytes}
+use Rattle.kinds.specs.Hashes.{fibonacci, fnv}
+use Rattle.kinds.specs.declared.kern.Pair.{Pair}
+use Rattle.kinds.specs.declared.sequence.Sequence.{Sequence}
+use Rattle.filter.specs.declared.plan.Plan.{Plan}
+use Rattle.history.specs.Rules.{Terms, Answer}
+use Rattle.history.specs.Beginnings.{nothing, list_terms}
+use Rattle.history.specs.History.{History, Answered}
+use Rattle.figures.specs.Lines.{lines_of}
+use Rattle.forms.specs.declared.command.Command.{Command}
+use Rattle.forms.specs.declared.command.Command.TheVariants as command
+use Rattle.forms.specs.declared.fault.LineFault.{LineFault}
+use Rattle.forms.specs.Meaning.{Meant}
+use Rattle.answers.specs.declared.done.Done.{Done}
+use Rattle.answers.specs.declared.done.Done.TheVariants.{Kern, Ligature}
+use Rattle.answers.specs.declared.fault.Refusal.{Refusal}
+use Rattle.answers.specs.declared.fault.Refusal.TheVariants.{Line, LongSheet}
+use Rattle.answers.specs.Texts.{answer_line}
+use Rattle.sheet.specs.Doing.{reply_of}
+use Rattle.kernsheet.specs.Lines.{Writes}
+
+-- What becomes of a line that means this, where k and l are what was asked of the kerning book and of the ligature book before it, with their answers, and k'
+-- and l' the same after it: one book gives the answer that its rules give for the keys current then. A line that is refused before asks neither.
+abbrev pub Outcome : Terms Pair → Terms Sequence → History Pair ℤ → History Pair ℤ → History Sequence ℕ → History Sequence ℕ → Result Command LineFault → Result Done Refusal → Type 0
+Outcome t u k k' l l' (Ok (command.Kern o)) reply =
+    (a : Answer ℤ) × Answered t nothing k o a × (k' ≡ k ++ (o, a) ∷ []) × (l' ≡ l) × (reply ≡ reply_of Kern a)
+Outcome t u k k' l l' (Ok (command.Ligature o)) reply =
+    (a : Answer ℕ) × Answered u nothing l o a × (l' ≡ l ++ (o, a) ∷ []) × (k' ≡ k) × (reply ≡ reply_of Ligature a)
+Outcome t u k k' l l' (Err e) reply = (k' ≡ k) × (l' ≡ l) × (reply ≡ Err (Line e))
+
+-- what is replied to a line
+abbrev pub LineAnswered : Terms Pair → Terms Sequence → History Pair ℤ → History Pair ℤ → History Sequence ℕ → History Sequence ℕ → List ℕ → Result Done Refusal → Type 0
+LineAnswered t u k k' l l' line reply = (r : Result Command LineFault) × Meant line r × Outcome t u k k' l l' r reply
+
+-- The text that answers lines, of which the first has that number: what is replied to each under its number, in turn.
+unfoldable pub LinesAnswered : Terms Pair → Terms Sequence → History Pair ℤ → History Sequence ℕ → ℕ → List (List ℕ) → List ℕ → Type 0
+LinesAnswered t u k l number [] text = text ≡ []
+LinesAnswered t u k l number (line ∷ lines) text =
+    (k' : History Pair ℤ) × (l' : History Sequence ℕ) × (reply : Result Done Refusal) × (rest : List ℕ)
+    × LineAnswered t u k k' l l' line reply × LinesAnswered t u k' l' (number + 1) lines rest × (text ≡ answer_line number reply ++ rest)
+
+-- The text that answers all lines of a sheet, numbered from 1, by the two books of kernsheet, of which nothing was asked before.
+pub record LinesOfSheet (sheet text : List ℕ) : Type 0 where
+  pub kern : Plan
+  pub ligature : Plan
+  pub kern_bits : (kern.q ≡ 8) × (kern.r ≡ 24)
+  pub ligature_bits : (ligature.q ≡ 6) × (ligature.r ≡ 16)
+  pub lines : LinesAnswered (list_terms pair_bytes (λ k. fibonacci k.left k.right) kern 5 256) (list_terms sequence_bytes (λ k. fnv (sequence_bytes k)) ligature 2 64) [] [] 1 (lines_of sheet) text
+
+-- the text that answers a sheet: that of its lines, or, where it is too long, that of this refusal
+abbrev pub SheetAnswered : List ℕ → List ℕ → Type 0
+SheetAnswered sheet text =
+    ((length sheet ≤ 65535) × LinesOfSheet sheet text)
+    ⊎ ((65535 < length sheet) × (text ≡ answer_line 0 (Err LongSheet)))
+
+-- What is written to answer an input: the sheet is all that this had left, where that is known.
+pub record AnswersInput (left o p : Option (List ℕ)) : Type 0 where
+  pub sheet : List ℕ
+  pub whole : IfSome left (λ bytes. sheet ≡ bytes)
+  pub answered : Writes o p (SheetAnswered sheet)
