@@ -7,6 +7,7 @@ use Rattle.answers.specs.declared.fault.BufferFault.TheVariants.{ShortBuffer}
 use Rattle.answers.specs.declared.fault.Refusal.{Refusal}
 use Rattle.answers.specs.declared.fault.Refusal.TheVariants.{LongSheet, Buffer, Line, Book}
 
+-- the number that a customer sees, of a buffer
 abbrev pub buffer_number : BufferFault → ℕ
 buffer_number ShortBuffer = 52
 

@@ -13,6 +13,7 @@ use Rattle.filter.specs.Filters.{SameFilter, words_of, fingerprints, laid_over, 
 use Rattle.filter.specs.declared.filter.Filter.{Filter}
 use Rattle.filter.proofs.Held.{words_length}
 use Rattle.tables.specs.Meaning.{Meaning, SameFrame}
+use Rattle.tables.proofs.Changes.{same_frame}
 use Rattle.history.proofs.Entries.{Alike, alike_cons, alike_sorted, words_alike, insert_entries, remove_entries}
 use Rattle.book.specs.Standings.{Standing, Steady}
 
@@ -130,9 +131,6 @@ holds_own f ps e =
 pub frame_then : {K V : Type 0} (m x y : Meaning K V) → SameFrame m x → SameFrame x y → SameFrame m y
 frame_then m x y a b = record { admits = b.admits ∙ a.admits; capacity = b.capacity ∙ a.capacity; places = b.places ∙ a.places }
 
-pub frame_self : {K V : Type 0} (m : Meaning K V) → SameFrame m m
-frame_self m = record { admits = refl; capacity = refl; places = refl }
-
 -- ---- books as they stand
 
 pub steady_then : {K V B : Type 0} (r s t : Standing K V B) → Steady r s → Steady s t → Steady r t
@@ -147,4 +145,4 @@ steady_then r s t a b =
     }
 
 pub steady_self : {K V B : Type 0} (s : Standing K V B) → Steady s s
-steady_self s = record { frame = frame_self s.table; lender = refl; beyond = refl; number = refl; owners = refl; filter = same_self s.filter }
+steady_self s = record { frame = same_frame s.table; lender = refl; beyond = refl; number = refl; owners = refl; filter = same_self s.filter }

@@ -1,7 +1,7 @@
 use filter::Filter;
 
-// kept: that the table is sound stands in the clauses of each call, and not in a ghost field: tried, and the proof that a ghost field owes, that what a table
-// says of itself is a proposition, does not close. To ask it of every table would ask more of whoever writes one.
+// kept: that the table is sound stands in the clauses of each call, and not in a ghost field: a ghost field has to be a proposition, and nothing says so of
+// what a table says of itself. To ask it of every table would ask more of whoever writes one.
 
 // kept: `find` and `open` are no methods: they ask for shared references where a lent book holds exclusive ones.
 

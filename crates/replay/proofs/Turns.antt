@@ -18,13 +18,15 @@ use Rattle.history.specs.declared.operation.Operation.TheVariants.{Put, Drop, Fi
 use Rattle.history.specs.declared.answer.Stored.TheVariants.{Kept, Changed}
 use Rattle.history.specs.declared.answer.Told.TheVariants.{Stored, Dropped, Found}
 use Rattle.history.proofs.Entries.{Alike, words_alike}
-use Rattle.history.proofs.Keys.{same_is, same_refl, numbers_same}
+use Rattle.tables.proofs.Options.{same_is, same_refl}
+use Rattle.history.proofs.Keys.{numbers_same}
 use Rattle.history.proofs.Rolls.{length_keys, current_keys, numbers_changed, numbers_new, numbers_dropped}
 use Rattle.history.proofs.Answers.{rule_same}
 use Rattle.history.proofs.Histories.{Step}
 use Rattle.book.specs.Books.{terms_of, held_by, fingerprints_of}
 use Rattle.replay.specs.Replays.{Done}
-use Rattle.book.proofs.Holding.{frame_self, Holds, holds_alike, holds_more, holds_less, holds_own, holds_then, entries_alike}
+use Rattle.tables.proofs.Changes.{same_frame}
+use Rattle.book.proofs.Holding.{Holds, holds_alike, holds_more, holds_less, holds_own, holds_then, entries_alike}
 
 module _ {K V : Type 0} (bytes : K → List ℕ) (apart : (a b : K) → bytes a ≡ bytes b → a ≡ b) (number : K → ℕ) where
   -- the terms stay
@@ -118,4 +120,4 @@ module _ {K V : Type 0} (bytes : K → List ℕ) (apart : (a b : K) → bytes a 
       subst (λ ps. Holds f g ps) (marks_same n) (holds_then f e g (fingerprints_of number f m) (fingerprints_of number e n) (record { same = s; entries = q; words = w }) d)
 
   pub back_lawful : (m : Meaning K V) (h : History K V) → Lawful (terms_of bytes number e m) (value_in bytes m) h → Lawful (terms_of bytes number f m) (value_in bytes m) h
-  back_lawful m h l = subst (λ (t : Terms K). Lawful t (value_in bytes m) h) (terms_same bytes apart number f e m m s (frame_self m)) l
+  back_lawful m h l = subst (λ (t : Terms K). Lawful t (value_in bytes m) h) (terms_same bytes apart number f e m m s (same_frame m)) l

@@ -45,11 +45,3 @@ count_clear (None ∷ rows) zero s h e = none_some s e
 count_clear (Some t ∷ rows) zero s h e = omega arith
 count_clear (None ∷ rows) (suc p) s h e = count_clear rows p s (omega arith) e
 count_clear (Some t ∷ rows) (suc p) s h e = let u = count_clear rows p s (omega arith) e in omega arith
-
--- some place is held where the count is not 0; none is free where it is the length
-pub count_full : {R : Type 0} (rows : List (Option R)) (p : ℕ) → p < length rows → count rows ≡ length rows → get_or rows p None ≡ None → ⊥
-unfolding count
-count_full [] p h c e = absurd (omega arith)
-count_full (None ∷ rows) p h c e = let t = count_fits rows in omega arith
-count_full (Some r ∷ rows) zero h c e = none_some r (sym e)
-count_full (Some r ∷ rows) (suc p) h c e = count_full rows p (omega arith) (omega arith) e

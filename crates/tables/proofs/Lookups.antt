@@ -1,8 +1,8 @@
 -- What is looked up, by the places that hold the key.
-use Rattle.std.proofs.Common.{◌≡◌, ℕ, zero, suc, Bool, true, false, cond, ◌⊎◌, List, [], ◌∷◌, get_or, Some, None, Option, sym, refl, ap, ◌∙◌, inl, inr}
+use Rattle.std.proofs.Common.{◌≡◌, ℕ, zero, suc, Bool, true, false, cond, ◌⊎◌, List, [], ◌∷◌, get_or, replicate, Some, None, Option, sym, refl, ap, ◌∙◌, inl, inr}
 use Rattle.kinds.specs.Keys.{same_key}
 use Rattle.tables.specs.declared.record.Record.{Record}
-use Rattle.tables.specs.Rows.{lookup, Apart}
+use Rattle.tables.specs.Rows.{lookup, keys_of, Apart}
 use Rattle.tables.proofs.Options.{none_some, some_one, value_in, Of, same_is, differ_from}
 
 -- a place that holds the record
@@ -96,3 +96,14 @@ module _ {K V : Type 0} (bytes : K → List ℕ) (apart : (a b : K) → bytes a 
       by_cases : Found rows k ⊎ Missed rows k → Absent rows k
       by_cases (inl f) = none_some f.r.value (sym none ∙ f.found)
       by_cases (inr m) = m.absent
+
+-- places that hold no record hold no key
+pub keys_none : (K V : Type 0) (n : ℕ) → keys_of {K = K} {V = V} (replicate n None) ≡ []
+unfolding keys_of
+keys_none K V zero = refl
+keys_none K V (suc n) = keys_none K V n
+
+pub lookup_none : {K : Type 0} (V : Type 0) (bytes : K → List ℕ) (n : ℕ) (k : K) → lookup {V = V} bytes (replicate n None) k ≡ None
+unfolding lookup
+lookup_none V bytes zero k = refl
+lookup_none V bytes (suc n) k = lookup_none V bytes n k
