@@ -5,26 +5,23 @@ use crate::session;
 /// A filter that serves: it does what `bench_next` tells, as often as the last number says, and reports each time by `bench_done`.
 pub type Serve = unsafe extern "C" fn(u32, u32, *mut u64, usize, *mut u64, usize, u32) -> bool;
 
-unsafe extern "C" {
-    fn bench_serve(
-        q: u32,
-        r: u32,
-        words: *mut u64,
-        words_len: usize,
-        list: *mut u64,
-        list_len: usize,
-        turns: u32,
-    ) -> bool;
-    fn bench_serve3(
-        q: u32,
-        r: u32,
-        words: *mut u64,
-        words_len: usize,
-        list: *mut u64,
-        list_len: usize,
-        turns: u32,
-    ) -> bool;
+macro_rules! served {
+    ($($name:ident),*) => {
+        unsafe extern "C" {
+            $(fn $name(
+                q: u32,
+                r: u32,
+                words: *mut u64,
+                words_len: usize,
+                list: *mut u64,
+                list_len: usize,
+                steps: u32,
+            ) -> bool;)*
+        }
+    };
 }
+
+served!(bench_serve, bench_serve3);
 
 /// The filter as it is built by default.
 pub const USUAL: Serve = bench_serve;
@@ -33,7 +30,7 @@ pub const USUAL: Serve = bench_serve;
 pub const NEWER: Serve = bench_serve3;
 
 /// Serves from an empty filter over the words, with memory for lists; whether the plan was one.
-pub fn serve(it: Serve, q: u32, r: u32, words: &mut [u64], list: &mut [u64], turns: u32) -> bool {
+pub fn serve(it: Serve, q: u32, r: u32, words: &mut [u64], list: &mut [u64], steps: u32) -> bool {
     // SAFETY: a slice goes as its address and its length, and the library keeps neither after the call.
     unsafe {
         it(
@@ -43,7 +40,7 @@ pub fn serve(it: Serve, q: u32, r: u32, words: &mut [u64], list: &mut [u64], tur
             words.len(),
             list.as_mut_ptr(),
             list.len(),
-            turns,
+            steps,
         )
     }
 }

@@ -8,7 +8,7 @@ mod programs;
 mod session;
 mod tables;
 
-use numbers::{Numbers, Pairs, ratio};
+use numbers::{Numbers, Pairs};
 use session::{Kind, Measured, Session, Step};
 use std::process::ExitCode;
 use std::rc::Rc;
@@ -135,75 +135,73 @@ fn measure(size: &Size, load: usize) -> Result<Row, String> {
     })
 }
 
+/// The calls that the tables show, in their order.
+const SHOWN: [Kind; 4] = [Kind::AskHeld, Kind::AskAbsent, Kind::Add, Kind::Take];
+
+/// Of each call shown a ratio, in cells of its own.
+fn ratios(of: impl Fn(Kind) -> f64) -> String {
+    SHOWN.map(|kind| format!("{:.2}", of(kind))).join(" | ")
+}
+
+/// Of each call shown its time, in one cell.
+fn times(of: impl Fn(Kind) -> f64) -> String {
+    SHOWN.map(|kind| format!("{:.1}", of(kind))).join(", ")
+}
+
+/// Prints a table: a line for each size and load, with these cells after the two.
+fn print_table(columns: &str, rows: &[Row], cells: impl Fn(&Row) -> String) {
+    println!("| q | load | {columns} |");
+    println!("|{}", "---|".repeat(3 + columns.matches(" | ").count()));
+    for row in rows {
+        println!("| {} | {} % | {} |", row.q, row.load, cells(row));
+    }
+}
+
 fn print(rows: &[Row]) {
-    let kinds = [Kind::AskHeld, Kind::AskAbsent, Kind::Add, Kind::Take];
     println!("## The filter against the plain filter\n");
     println!("The filter as it is built by default, the plain filter with `pdep`.\n");
-    println!(
-        "| q | load | `has`, held | `has`, absent | `add` | `take` | filter, ns | plain, ns |"
+    print_table(
+        "`has`, held | `has`, absent | `add` | `take` | filter, ns | plain, ns",
+        rows,
+        |Row { usual, .. }| {
+            let ratios = ratios(|kind| usual.against(kind, true));
+            let filter = times(|kind| usual.filter(kind));
+            let plain = times(|kind| usual.with_pdep(kind));
+            format!("{ratios} | {filter} | {plain}")
+        },
     );
-    println!("|---|---|---|---|---|---|---|---|");
-    for row in rows {
-        print!("| {} | {} % |", row.q, row.load);
-        for kind in kinds {
-            print!(" {:.2} |", row.usual.against(kind, true));
-        }
-        for of in [Measured::filter, Measured::with_pdep] {
-            let times = kinds.map(|kind| format!("{:.1}", of(&row.usual, kind)));
-            print!(" {} |", times.join(", "));
-        }
-        println!();
-    }
     println!("\n## The same by processor\n");
     println!(
         "Default: both without `pdep`. v3: both for x86-64-v3, the plain filter with `pdep`.\n"
     );
-    println!(
-        "| q | load | `has`, held | `has`, absent | `add` | `take` | v3: `has`, held | `has`, absent | `add` | `take` | plain without `pdep`, ns | filter v3, ns |"
+    print_table(
+        "`has`, held | `has`, absent | `add` | `take` | v3: `has`, held | `has`, absent | `add` | `take` | plain without `pdep`, ns | filter v3, ns",
+        rows,
+        |Row { usual, newer, .. }| {
+            let default = ratios(|kind| usual.against(kind, false));
+            let v3 = ratios(|kind| newer.against(kind, true));
+            let plain = times(|kind| usual.without_pdep(kind));
+            let filter = times(|kind| newer.filter(kind));
+            format!("{default} | {v3} | {plain} | {filter}")
+        },
     );
-    println!("|---|---|---|---|---|---|---|---|---|---|---|---|");
-    for row in rows {
-        print!("| {} | {} % |", row.q, row.load);
-        for kind in kinds {
-            print!(" {:.2} |", row.usual.against(kind, false));
-        }
-        for kind in kinds {
-            print!(" {:.2} |", row.newer.against(kind, true));
-        }
-        print!(
-            " {} |",
-            kinds
-                .map(|kind| format!("{:.1}", row.usual.without_pdep(kind)))
-                .join(", ")
-        );
-        println!(
-            " {} |",
-            kinds
-                .map(|kind| format!("{:.1}", row.newer.filter(kind)))
-                .join(", ")
-        );
-    }
     println!("\n## `has` against lookups of the table alone\n");
-    println!(
-        "| q | load | absent: of the hash map's time | of the tree's | of the search's | held: of the hash map's | hash map, ns (held, absent) | tree, ns | search, ns |"
+    print_table(
+        "absent: of the hash map's time | of the tree's | of the search's | held: of the hash map's | hash map, ns (held, absent) | tree, ns | search, ns",
+        rows,
+        |Row { usual, lookups, .. }| {
+            let Lookups { hash, tree, search } = lookups;
+            let all = [hash, tree, search];
+            let absent = all.map(|it| format!("{:.2}", usual.filter(Kind::AskAbsent) / it[1]));
+            let held = usual.filter(Kind::AskHeld) / hash[0];
+            let tables = all.map(|[held, absent]| format!("{held:.1}, {absent:.1}"));
+            format!(
+                "{} | {held:.2} | {}",
+                absent.join(" | "),
+                tables.join(" | ")
+            )
+        },
     );
-    println!("|---|---|---|---|---|---|---|---|---|");
-    for row in rows {
-        let it = &row.lookups;
-        let (held, absent) = (
-            row.usual.filter(Kind::AskHeld),
-            row.usual.filter(Kind::AskAbsent),
-        );
-        print!("| {} | {} % |", row.q, row.load);
-        for other in [it.hash[1], it.tree[1], it.search[1]] {
-            print!(" {:.2} |", ratio(absent, other));
-        }
-        print!(" {:.2} |", ratio(held, it.hash[0]));
-        for [held, absent] in [it.hash, it.tree, it.search] {
-            print!(" {held:.1}, {absent:.1} |");
-        }
-        println!();
-    }
 }
 
 fn run(folder: &str) -> Result<(), String> {

@@ -80,10 +80,6 @@ pub fn middle(times: &[f64]) -> f64 {
     times.get(times.len() / 2).copied().unwrap_or(f64::NAN)
 }
 
-pub fn ratio(a: f64, b: f64) -> f64 {
-    a / b
-}
-
 /// Whether the processor has what is compiled for it.
 pub fn has_feature(name: &str) -> bool {
     match name {

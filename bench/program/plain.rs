@@ -517,47 +517,36 @@ pub trait Calls {
     fn take_all(&mut self, list: &[u64]) -> u64;
 }
 
+/// Counts those of a list that a call says yes to, by a loop that is compiled for processors with these features.
+macro_rules! count {
+    ($features:literal, $of:expr, $list:expr, |$filter:ident: $type:ty| $by:expr, $call:ident) => {{
+        #[target_feature(enable = $features)]
+        fn go($filter: $type, list: &[u64]) -> u64 {
+            let by = $by;
+            let mut n = 0;
+            for p in list {
+                n += u64::from(by.$call(*p));
+            }
+            n
+        }
+        // SAFETY: `main` stops on a processor that lacks these.
+        unsafe { go($of, $list) }
+    }};
+}
+
 macro_rules! calls {
     ($pdep:literal, $features:literal) => {
         impl Calls for Plain<$pdep> {
             fn ask(&self, list: &[u64]) -> u64 {
-                #[target_feature(enable = $features)]
-                fn go(filter: &Plain<$pdep>, list: &[u64]) -> u64 {
-                    let view = filter.view();
-                    let mut n = 0;
-                    for p in list {
-                        n += u64::from(view.has(*p));
-                    }
-                    n
-                }
-                // SAFETY: `main` stops on a processor that lacks these.
-                unsafe { go(self, list) }
+                count!($features, self, list, |it: &Plain<$pdep>| it.view(), has)
             }
 
             fn add_all(&mut self, list: &[u64]) -> u64 {
-                #[target_feature(enable = $features)]
-                fn go(filter: &mut Plain<$pdep>, list: &[u64]) -> u64 {
-                    let mut n = 0;
-                    for p in list {
-                        n += u64::from(filter.add(*p));
-                    }
-                    n
-                }
-                // SAFETY: as above.
-                unsafe { go(self, list) }
+                count!($features, self, list, |it: &mut Plain<$pdep>| it, add)
             }
 
             fn take_all(&mut self, list: &[u64]) -> u64 {
-                #[target_feature(enable = $features)]
-                fn go(filter: &mut Plain<$pdep>, list: &[u64]) -> u64 {
-                    let mut n = 0;
-                    for p in list {
-                        n += u64::from(filter.take(*p));
-                    }
-                    n
-                }
-                // SAFETY: as above.
-                unsafe { go(self, list) }
+                count!($features, self, list, |it: &mut Plain<$pdep>| it, take)
             }
         }
     };

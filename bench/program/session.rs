@@ -37,7 +37,7 @@ pub struct Session {
 /// Nanoseconds for each call, step by step: of the filter, of the plain filter with `pdep`, and of that without.
 #[derive(Default)]
 pub struct Measured {
-    steps: Vec<(Option<Kind>, [f64; 3])>,
+    steps: Vec<(Kind, [f64; 3])>,
 }
 
 impl Measured {
@@ -45,7 +45,7 @@ impl Measured {
         let times: Vec<f64> = self
             .steps
             .iter()
-            .filter(|it| it.0 == Some(kind))
+            .filter(|it| it.0 == kind)
             .map(|it| read(&it.1))
             .collect();
         middle(&times)
@@ -150,7 +150,7 @@ pub fn done(count: u64, words: &[u64]) {
         running
             .measured
             .steps
-            .push((Some(step.kind), [filter, with, without]));
+            .push((step.kind, [filter, with, without]));
         running.at += 1;
         if [count, with_count, without_count] != [step.count; 3] {
             running.fault.get_or_insert(format!(
@@ -167,27 +167,18 @@ pub fn done(count: u64, words: &[u64]) {
     });
 }
 
-trait Whole: Calls {
-    fn lay(&mut self, list: &mut [u64]) -> bool;
-}
-
-impl<const PDEP: bool> Whole for Plain<PDEP>
+/// Nanoseconds for each call of a step, and what was counted.
+fn timed<const PDEP: bool>(filter: &mut Plain<PDEP>, step: &Step) -> (f64, u64)
 where
     Plain<PDEP>: Calls,
 {
-    fn lay(&mut self, list: &mut [u64]) -> bool {
-        self.lay_out(list)
-    }
-}
-
-fn timed<F: Whole>(filter: &mut F, step: &Step) -> (f64, u64) {
     let mut list = step.list.to_vec();
     let begun = Instant::now();
     let count = match step.kind {
         Kind::AskHeld | Kind::AskAbsent => filter.ask(black_box(&list)),
         Kind::Add => filter.add_all(black_box(&list)),
         Kind::Take => filter.take_all(black_box(&list)),
-        Kind::LayOut => u64::from(filter.lay(&mut list)),
+        Kind::LayOut => u64::from(filter.lay_out(&mut list)),
     };
     (
         begun.elapsed().as_nanos() as f64 / step.list.len() as f64,
