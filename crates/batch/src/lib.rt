@@ -4,8 +4,6 @@
 mod lines;
 mod reading;
 mod reporting;
-#[cfg(test)]
-mod tests;
 
 pub use lines::{Batch, BookKind, Destination, RefusedLine};
 pub use reading::batch_of;

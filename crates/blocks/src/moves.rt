@@ -169,31 +169,3 @@ pub fn lower_offsets(words: &mut [u64], width: Width, from: u32, to: u32)
         change_each(words, width, from, to, |v| v.saturating_sub(1));
     }
 }
-
-#[cfg(test)]
-mod tests {
-    use super::*;
-    use std::test::Fail;
-
-    #[test]
-    fn up_and_down(rt: HostRuntime) -> Result<(), Fail> {
-        let Some(width) = Width::new(5) else {
-            return Err(Fail::new("no width of 5 bits"));
-        };
-        let mut row = [0u64; 16];
-        set_remainder(&mut row, width, Slot(63), 21);
-        set_runend(&mut row, width, Slot(63), true);
-        move_up(&mut row, width, Slot(63), Slot(70));
-        assert_eq!(rt; Blocks { width, words: &row }.remainder(Slot(64)), 21);
-        assert_eq!(rt; Blocks { width, words: &row }.runend(Slot(64)), true);
-        move_down(&mut row, width, Slot(60), Slot(70));
-        assert_eq!(rt; Blocks { width, words: &row }.remainder(Slot(63)), 21);
-        assert_eq!(rt; Blocks { width, words: &row }.remainder(Slot(64)), 0);
-        raise_offsets(&mut row, width, 0, 2);
-        raise_offsets(&mut row, width, 1, 3);
-        lower_offsets(&mut row, width, 0, 1);
-        assert_eq!(rt; Blocks { width, words: &row }.offset(0), 0);
-        assert_eq!(rt; Blocks { width, words: &row }.offset(1), 1);
-        Ok(())
-    }
-}

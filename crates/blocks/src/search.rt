@@ -199,27 +199,3 @@ impl Blocks<'_> {
         self.runend_from(from, k)
     }
 }
-
-#[cfg(test)]
-mod tests {
-    use super::*;
-    use std::test::Fail;
-    use words::Width;
-
-    #[test]
-    fn two_blocks(rt: HostRuntime) -> Result<(), Fail> {
-        let Some(width) = Width::new(1) else {
-            return Err(Fail::new("no width of 1 bit"));
-        };
-        // Occupied: 1, 3 and 66. Runends: 1, 4, 64 and 67.
-        let row = [0b1010, 0b10010, 0, 0, 0b100, 0b1001, 0, 0];
-        let blocks = Blocks { width, words: &row };
-        assert_eq!(rt; blocks.occupied_below(Quotient(3)), 1);
-        assert_eq!(rt; blocks.runs_ended(Quotient(5)), 2);
-        assert_eq!(rt; blocks.nth_occupied(1, 1), Some(Quotient(66)));
-        assert_eq!(rt; blocks.runends_between(Slot(2), Slot(67)), 2);
-        assert_eq!(rt; blocks.nth_runend(Slot(2), 3), Some(Slot(67)));
-        assert_eq!(rt; blocks.nth_runend(Slot(2), 4), None);
-        Ok(())
-    }
-}

@@ -1,3 +1,4 @@
+pub mod Entries
 pub mod Refusals
 pub mod Holding
 pub mod Opening

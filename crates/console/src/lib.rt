@@ -6,6 +6,4 @@ pub mod fault;
 pub mod program;
 pub mod request;
 pub mod storage;
-#[cfg(test)]
-mod tests;
 pub mod text;

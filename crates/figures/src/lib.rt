@@ -136,35 +136,3 @@ pub fn pair_fields(bytes: &[u8]) -> Result<(u16, u16, i16), FigureFault>
     let value = amount(rest)?;
     Ok((glyph_number(left)?, glyph_number(right)?, value))
 }
-
-#[cfg(test)]
-mod tests {
-    use super::lines::next_line;
-    use super::*;
-    use std::test::Fail;
-
-    #[test]
-    fn reads_numbers(rt: HostRuntime) {
-        assert_eq!(rt; pair_fields(b"36 57 -40"), Ok((36, 57, -40)));
-        assert_eq!(rt; pair_fields(b"0 65535 -32768"), Ok((0, 65535, -32768)));
-        assert_eq!(rt; pair_fields(b"1 65536 0"), Err(FigureFault::TooLarge));
-        assert_eq!(rt; pair_fields(b"65536 1 -0"), Err(FigureFault::Unreadable));
-        assert_eq!(rt;
-            natural(b"18446744073709551615"),
-            Some(18446744073709551615)
-        );
-        assert_eq!(rt; natural(b"18446744073709551616"), None);
-        assert_eq!(rt; natural(b"07"), None);
-    }
-
-    #[test]
-    fn cuts_lines(rt: HostRuntime) -> Result<(), Fail> {
-        let Some((line, rest)) = next_line(b"a\n\nb") else {
-            return Err(Fail::new("no line"));
-        };
-        assert_eq!(rt; line, b"a".as_slice());
-        assert_eq!(rt; rest, b"\nb".as_slice());
-        assert!(rt; next_line(b"").is_none());
-        Ok(())
-    }
-}

@@ -8,8 +8,6 @@ mod filter;
 mod laid;
 mod laying;
 mod plan;
-#[cfg(test)]
-mod tests;
 
 pub use blocks::{Quotient, Slot};
 pub use fault::FilterFault;

@@ -1,7 +1,8 @@
 //! Reads a log of commands from standard input, runs them on one filter, and prints what each answers.
 #![tactic(auto)]
 
-ghost use Rattle.std.specs.Prelude.{None};
+ghost use Rattle.std.specs.Prelude.{None, OnOk};
+ghost use Rattle.std.specs.Io.KnownBytes.{IsAtEnd};
 ghost use Rattle.filterlog.specs.Runs.{LineDone};
 ghost use Rattle.filterlog.specs.Logs.{LogDone};
 
@@ -53,7 +54,8 @@ fn print_log<R: Read, W: Write>(
     out: &mut W,
     request: Option<Request>,
 ) -> Result<(), Fault>
-    ensures { LogDone request (R.remaining log.old) (W.contents out.old) (W.contents out.new) result }
+    ensures done { LogDone request (R.remaining log.old) (W.contents out.old) (W.contents out.new) result }
+    ensures all { OnOk result (IsAtEnd (R.remaining log.new)) }
 {
     let request = request.ok_or(Fault::Arguments)?;
     let plan = request.plan()?;

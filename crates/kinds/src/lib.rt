@@ -8,8 +8,6 @@ mod key_bytes;
 mod kind;
 mod ligature;
 mod sequence;
-#[cfg(test)]
-mod tests;
 
 pub use fingerprint::{Fibonacci, Fingerprint, Fnv1a, examples};
 pub use hash::fnv1a;

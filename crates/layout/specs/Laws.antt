@@ -38,6 +38,7 @@ BoundLaw = (slots r bound : ℕ) (ps : List ℕ) → Every (λ p. quotient r p <
 
 -- ---- which slots are used
 
+-- a slot is used just where entries wait at it or come there
 abbrev pub UsedLaw : Type 0
 UsedLaw = (r : ℕ) (ps : List ℕ) → Sorted ps → (s : ℕ) → used_at (laid r 0 ps) s ≡ bit (nat_lt 0 (offset_at r (laid r 0 ps) s + many r ps s))
 
@@ -132,6 +133,7 @@ pub record Within (slots r : ℕ) (ps : List ℕ) : Type 0 where
   pub offset : (x : ℕ) → x ≤ slots → x + offset_at r (laid r 0 ps) x ≤ slots
   pub last : (c : ℕ) → 0 < many r ps c → last_slot r ps c < slots
 
+-- where no quotient is crowded, nothing lies past the slots
 abbrev pub WithinLaw : Type 0
 WithinLaw = (slots r : ℕ) (ps : List ℕ) → Sorted ps → Roomy slots r ps → Within slots r ps
 
@@ -150,6 +152,7 @@ FitLaw = (r : ℕ) (ps : List ℕ) → Sorted ps → (c : ℕ) → Sorted (remai
 
 -- ---- any list of fingerprints, by the sorted one
 
+-- one fingerprint more, or one less, of a list in any order is one more, or one less, of the sorted list; what was put in and is taken out again leaves the list as it was
 abbrev pub BagLaw : Type 0
 BagLaw = (p : ℕ) (ps : List ℕ)
     → (sorted (p ∷ ps) ≡ insert p (sorted ps)) × (sorted (remove p ps) ≡ remove p (sorted ps)) × (remove p (insert p ps) ≡ ps)

@@ -78,6 +78,7 @@ Uncrowded slots from = (c : ℕ) → from c ≤ slots - c
 abbrev pub Served : ℕ → (ℕ → ℕ) → (ℕ → ℕ) → Type 0
 Served slots m from = (load m slots ≡ 0) × (from slots ≡ 0)
 
+-- no place is crowded just where the slots serve all
 abbrev pub CrowdingLaw : Type 0
 CrowdingLaw = (slots : ℕ) (m from : ℕ → ℕ) → Tails m from → (Uncrowded slots from → Served slots m from) × (Served slots m from → Uncrowded slots from)
 

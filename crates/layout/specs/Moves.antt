@@ -36,6 +36,7 @@ pub record Inserted (m : ℕ → ℕ) (c j u v : ℕ) (used rem end used' rem' e
   pub remainders : Slid (start m c + j) u v rem rem'
   pub ends : SlidEnds (start m c + j) u j (m c) end end'
 
+-- one entry more in the run of c, at place j: the slots change from there up to the first free one, and nowhere else
 abbrev pub SlotsLaw : Type 0
 SlotsLaw = (m n : ℕ → ℕ) (R R' : ℕ → List ℕ) (c j u v : ℕ) (used rem end used' rem' end' : ℕ → ℕ)
     → InRuns m R used rem end → InRuns n R' used' rem' end'

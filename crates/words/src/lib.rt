@@ -188,34 +188,3 @@ pub fn set_field(words: &mut [u64], place: usize, width: Width, v: u32)
         );
     }
 }
-
-#[cfg(test)]
-mod tests {
-    use super::*;
-    use std::test::Fail;
-
-    #[test]
-    fn places(rt: HostRuntime) {
-        assert_eq!(rt; bit(0b1011000, 4), true);
-        assert_eq!(rt; with_bit(0b1011000, 4, false), 0b1001000);
-        assert_eq!(rt; rank(0b1011000, 4), 2);
-        assert_eq!(rt; rank(u64::MAX, 63), 64);
-        assert_eq!(rt; select(0b1011000, 2), Some(4));
-        assert_eq!(rt; select(0b1011000, 4), None);
-    }
-
-    #[test]
-    fn straddles(rt: HostRuntime) -> Result<(), Fail> {
-        let Some(width) = Width::new(5) else {
-            return Err(Fail::new("no width of 5 bits"));
-        };
-        let mut row = [0u64; 5];
-        set_field(&mut row, 60, width, 0b110110);
-        assert_eq!(rt; row[0], 0b0110 << 60);
-        assert_eq!(rt; row[1], 1);
-        assert_eq!(rt; field(&row, 60, width), 0b10110);
-        set_field(&mut row, 316, width, 1);
-        assert_eq!(rt; field(&row, 316, width), 0);
-        Ok(())
-    }
-}

@@ -103,26 +103,3 @@ pub fn move_bits_down(words: &mut [u64], from: usize, to: usize, by: Width)
         }
     }
 }
-
-#[cfg(test)]
-mod tests {
-    use super::*;
-    use std::test::Fail;
-
-    #[test]
-    fn up_and_down(rt: HostRuntime) -> Result<(), Fail> {
-        let Some(width) = Width::new(5) else {
-            return Err(Fail::new("no width of 5 bits"));
-        };
-        let mut row = [u64::MAX, 0, u64::MAX];
-        move_bits_up(&mut row, 60, 130, width);
-        assert_eq!(rt; row, [u64::MAX, 0b11110, u64::MAX << 2]);
-        move_bits_down(&mut row, 3, 69, width);
-        assert_eq!(rt; row, [!(1 << 59), 0b11110, u64::MAX << 2]);
-        move_bits_down(&mut row, 60, 192, width);
-        assert_eq!(rt; row, [!(1 << 59), 0b111 << 61, u64::MAX]);
-        move_bits_up(&mut row, 0, 193, width);
-        assert_eq!(rt; row, [!(1 << 59), 0b111 << 61, u64::MAX]);
-        Ok(())
-    }
-}

@@ -13,8 +13,8 @@ loop-line-preserved g c =
       appends_more _ _ _ _ _ shown more,
     )
 
-pub returns : goal.returns
-returns g c =
+pub returns-clause-done : goal.returns-clause-done
+returns-clause-done g c =
     let asked : c.args.request ≡ Some c.in_ok-request.request = search rules in
     let printed : Printed c.in_ok-request.request (g.R.Read.remaining c.args.log.now) (g.W.Write.contents c.args.out.now) (g.W.Write.contents c.loop-line.out) = record {
       log = c.as_slice.result.now;

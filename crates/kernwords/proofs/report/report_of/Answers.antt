@@ -1,4 +1,4 @@
-use Rattle.std.proofs.Common.{refl, rules}
+use Rattle.std.proofs.Common.{refl}
 use Rattle.kernwords.proofs.report.report_of.Goals as goal
 
 pub returns : goal.returns
@@ -8,9 +8,9 @@ returns c = record {
   lines = c.in_ok-batch.batch.lines.items;
   kern_answers = c.in_ok-kerns.kerns.answers.items;
   ligature_answers = c.in_ok-ligatures.ligatures.answers.items;
-  sorted = search rules;
-  kern = record { sized = refl; done = search rules };
-  ligature = record { sized = refl; done = search rules };
-  ligature_size = search rules;
-  refused = search rules;
+  sorted = c.in_ok-batch.ensures;
+  kern = record { sized = refl; done = rw (← c.as_slice.ensures.value) c.in_ok-kerns.ensures };
+  ligature = record { sized = refl; done = rw (← c.as_slice-2.ensures.value) c.in_ok-ligatures.ensures };
+  ligature_size = c.ligature_size-ligature_size.ensures;
+  refused = rw (← c.as_slice-3.ensures.value, ← c.as_slice-4.ensures.value, ← c.as_slice-5.ensures.value) c.in_ok-refused.ensures;
 }

@@ -1,4 +1,5 @@
-use super::*;
+//! Keys and their fingerprints.
+use kinds::{Fibonacci, Fingerprint, Fnv1a, Ligature, Pair, Sequence, fnv1a};
 use std::test::Fail;
 
 #[test]

@@ -1,7 +1,8 @@
-use crate::fault::Fault;
-use crate::program::Refused;
-use crate::request::Request;
-use crate::storage::{Blocks, blank};
+//! What programs read and print.
+use console::fault::Fault;
+use console::program::Refused;
+use console::request::Request;
+use console::storage::{Blocks, blank};
 use filter::{FilterFault, Plan};
 use std::test::Fail;
 

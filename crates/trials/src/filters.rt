@@ -1,4 +1,5 @@
-use super::*;
+//! A filter's refusals.
+use filter::{Filter, FilterFault, Plan};
 use std::test::Fail;
 
 #[test]

@@ -1,9 +1,12 @@
-//! A text sorted, and its refused lines told.
-use super::{BookKind, RefusedLine, batch_of, refused_lines};
+//! Figures and lines, and a text sorted with its refused lines.
 use answers::Refusal;
+use batch::{BookKind, RefusedLine, batch_of, refused_lines};
+use figures::lines::next_line;
+use figures::{FigureFault, natural, pair_fields};
 use forms::LineFault;
 use history::{Answer, BookFault, Stored, Told};
 use std::alloc::AllocError;
+use std::test::Fail;
 
 #[test]
 fn tells_the_refused_lines(rt: HostRuntime) -> Result<(), AllocError> {
@@ -35,5 +38,30 @@ fn tells_the_refused_lines(rt: HostRuntime) -> Result<(), AllocError> {
         },
     ];
     assert_eq!(rt; refused.as_slice(), expected.as_slice());
+    Ok(())
+}
+
+#[test]
+fn reads_numbers(rt: HostRuntime) {
+    assert_eq!(rt; pair_fields(b"36 57 -40"), Ok((36, 57, -40)));
+    assert_eq!(rt; pair_fields(b"0 65535 -32768"), Ok((0, 65535, -32768)));
+    assert_eq!(rt; pair_fields(b"1 65536 0"), Err(FigureFault::TooLarge));
+    assert_eq!(rt; pair_fields(b"65536 1 -0"), Err(FigureFault::Unreadable));
+    assert_eq!(rt;
+        natural(b"18446744073709551615"),
+        Some(18446744073709551615)
+    );
+    assert_eq!(rt; natural(b"18446744073709551616"), None);
+    assert_eq!(rt; natural(b"07"), None);
+}
+
+#[test]
+fn cuts_lines(rt: HostRuntime) -> Result<(), Fail> {
+    let Some((line, rest)) = next_line(b"a\n\nb") else {
+        return Err(Fail::new("no line"));
+    };
+    assert_eq!(rt; line, b"a".as_slice());
+    assert_eq!(rt; rest, b"\nb".as_slice());
+    assert!(rt; next_line(b"").is_none());
     Ok(())
 }
