@@ -8,7 +8,10 @@ use Rattle.filter.specs.declared.fault.FilterFault.TheVariants.{NoSlot}
 use Rattle.filter.specs.declared.filter.Filter.{Filter}
 use Rattle.tables.specs.Rows.{keys_of}
 use Rattle.tables.specs.Meaning.{Meaning, value_in, held_in, Revalued}
-use Rattle.history.specs.Rules.{Terms, Holdings}
+use Rattle.history.specs.Rules.{Terms, Holdings, Answer}
+use Rattle.history.specs.declared.operation.Operation.{Operation}
+use Rattle.history.specs.declared.operation.Operation.TheVariants.{Put, Drop, Find}
+use Rattle.history.specs.declared.answer.Told.TheVariants as told
 use Rattle.history.specs.declared.answer.Stored.{Stored}
 use Rattle.history.specs.declared.answer.Stored.TheVariants.{Kept, Changed}
 use Rattle.history.specs.declared.fault.BookFault.{BookFault}
@@ -59,3 +62,13 @@ Opened number f g m (Ok done) =
 Opened number f g m (Err e) =
     (e ≡ fault.Filter NoSlot) × Crowds f.plan (slots_of f) (fingerprints_of number f m)
     × (fingerprints g ≡ []) × (words_of g ≡ cleared_over f.plan.r f.blocks (words_of f))
+
+-- What an operation with its answer makes of filter and table: a find changes neither. No other answer is given.
+abbrev pub OperationDone : {K V : Type 0} → (K → List ℕ) → (K → ℕ) → Filter → Filter → Meaning K V → Meaning K V
+    → Operation K V → Answer V → Type 0
+OperationDone bytes number f g m n (Put k v) (Ok (told.Stored s)) = PutDone bytes number f g m n k v (Ok s)
+OperationDone bytes number f g m n (Put k v) (Err e) = PutDone bytes number f g m n k v (Err e)
+OperationDone bytes number f g m n (Drop k) (Ok told.Dropped) = DropDone bytes number f g m n k (Ok tt)
+OperationDone bytes number f g m n (Drop k) (Err e) = DropDone bytes number f g m n k (Err e)
+OperationDone bytes number f g m n (Find k) (Ok (told.Found x)) = (g ≡ f) × (n ≡ m)
+OperationDone bytes number f g m n o a = ⊥

@@ -1,2 +1,3 @@
 pub mod Books
 pub mod Standings
+pub mod Reached

@@ -1,9 +1,11 @@
 //! Open and find.
-ghost use Rattle.std.specs.Prelude.{◌≡◌, ℕ};
+ghost use Rattle.std.specs.Prelude.{◌≡◌, ℕ, [], OnOk};
 ghost use Rattle.filter.specs.Cuts.{cut_to};
 ghost use Rattle.history.specs.Rules.{FindRule};
 ghost use Rattle.filter.specs.Filters.{SameFilter};
+ghost use Rattle.history.specs.History.{find_event};
 ghost use Rattle.book.specs.Books.{terms_of, held_by, Opened};
+ghost use Rattle.book.specs.Reached.{state_of, Reached, Extends};
 
 use filter::{Filter, Plan};
 use history::{BookFault, Found};
@@ -25,7 +27,9 @@ pub fn find<K: Kind, X: Table<K>, P: Fingerprint<K>>(
     key: K::Key,
 ) -> Found<K::Value>
     requires { X.Table.sound table.now }
-    ensures { FindRule (terms_of K.Kind.bytes (P.Fingerprint.number by.now) filter.now (X.Table.meaning table.now)) (held_by K.Kind.bytes filter.now (X.Table.meaning table.now)) key result }
+    ensures law { let s = state_of filter.now (X.Table.meaning table.now) (P.Fingerprint.number by.now) in
+        Extends K.Kind.bytes s s (find_event key result) }
+    ensures answer { FindRule (terms_of K.Kind.bytes (P.Fingerprint.number by.now) filter.now (X.Table.meaning table.now)) (held_by K.Kind.bytes filter.now (X.Table.meaning table.now)) key result }
 {
     let Ok(there) = filter.has(fingerprint_of::<K, P>(filter.plan(), by, key)) else {
         unreachable!()
@@ -46,6 +50,9 @@ pub fn open<K: Kind, X: Table<K>, P: Fingerprint<K>>(
 ) -> Result<(), BookFault>
     requires { X.Table.sound table.now }
     ensures filter { SameFilter filter.old filter.new }
+    ensures law { let m = X.Table.meaning table.now in
+        let number = P.Fingerprint.number by.now in
+        OnOk result (Reached K.Kind.bytes (state_of filter.old m number) (state_of filter.new m number) []) }
     ensures done { Opened (P.Fingerprint.number by.now) filter.old filter.new (X.Table.meaning table.now) result }
 {
     filter.clear();

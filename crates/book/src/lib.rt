@@ -5,7 +5,9 @@
 
 mod book;
 mod calls;
+mod laws;
 mod operations;
 
 pub use book::Book;
 pub use calls::{find, open};
+pub use laws::empty_is_open;

@@ -1,7 +1,9 @@
 //! Put and drop.
 ghost use Rattle.std.specs.Prelude.{◌≡◌, false, is_ok};
 ghost use Rattle.history.specs.Rules.{PutRule, DropRule};
+ghost use Rattle.history.specs.History.{put_event, drop_event};
 ghost use Rattle.book.specs.Books.{PutDone, DropDone};
+ghost use Rattle.book.specs.Reached.{state, Extends};
 ghost use Rattle.book.specs.Standings.{standing, Steady, terms_at, held_at};
 
 use crate::book::Book;
@@ -24,6 +26,8 @@ impl<X, P> Book<'_, '_, '_, '_, X, P> {
         ensures answer { let at = standing X.Table.meaning X.Table.lender X.Table.beyond P.Fingerprint.number in
             PutRule (terms_at K.Kind.bytes (at self.old)) (held_at K.Kind.bytes (at self.old)) key result }
         ensures done { PutDone K.Kind.bytes (P.Fingerprint.number self.old.by.now) self.old.filter.now self.new.filter.now (X.Table.meaning self.old.table.now) (X.Table.meaning self.new.table.now) key value result }
+        ensures law { let at = state X.Table.meaning P.Fingerprint.number in
+            Extends K.Kind.bytes (at self.old) (at self.new) (put_event key value result) }
         ensures undone { is_ok result ≡ false → self.new.table.now ≡ self.old.table.now }
     {
         if !self.table.admits(key) {
@@ -55,6 +59,8 @@ impl<X, P> Book<'_, '_, '_, '_, X, P> {
         ensures answer { let at = standing X.Table.meaning X.Table.lender X.Table.beyond P.Fingerprint.number in
             DropRule (terms_at K.Kind.bytes (at self.old)) (held_at K.Kind.bytes (at self.old)) key result }
         ensures done { DropDone K.Kind.bytes (P.Fingerprint.number self.old.by.now) self.old.filter.now self.new.filter.now (X.Table.meaning self.old.table.now) (X.Table.meaning self.new.table.now) key result }
+        ensures law { let at = state X.Table.meaning P.Fingerprint.number in
+            Extends K.Kind.bytes (at self.old) (at self.new) (drop_event key result) }
         ensures undone { is_ok result ≡ false → self.new.table.now ≡ self.old.table.now }
     {
         if self.table.look(key).is_none() {

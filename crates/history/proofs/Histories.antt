@@ -179,11 +179,7 @@ module _ {K V : Type 0} (ops : List (Operation K V)) (i : ℕ) (o : Operation K 
       ∙ paired_push (take i ops) xs o a (length-take-le i ops (omega arith) ∙ sym len)
 
 -- no operation yet
-module _ {K V : Type 0} where
-  pub follows_paired : (opening : K → Option V) (xs : List (Answer V)) → Follows opening (paired [] xs) opening
-  unfolding paired
-  follows_paired opening xs = follows_none opening
-
-  pub lawful_paired : (t : Terms K) (opening : K → Option V) (xs : List (Answer V)) → Lawful t opening (paired [] xs)
-  unfolding paired
-  lawful_paired t opening xs = lawful_none t opening
+pub paired_none : {A B : Type 0} (xs : List A) (ys : List B) → xs ≡ [] → paired xs ys ≡ []
+unfolding paired
+paired_none [] ys e = refl
+paired_none (x ∷ xs) ys e = cc

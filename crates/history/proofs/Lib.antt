@@ -4,3 +4,4 @@ pub mod Keys
 pub mod Rolls
 pub mod Answers
 pub mod Histories
+pub mod Laws

@@ -1,10 +1,14 @@
 -- The law of a book over whole histories: what it answers and what it holds, by the operations and their answers alone.
-use Rattle.std.specs.Prelude.{◌≡◌, ℕ, ◌+◌, List, [], ◌∷◌, ◌++◌, map, length, is_some, Some, None, Ok, Option}
+use Rattle.std.specs.Prelude.{◌≡◌, ℕ, ◌+◌, List, [], ◌∷◌, ◌++◌, map, length, is_some, Some, None, Ok, Err, Option, Result}
 use Rattle.kinds.specs.Keys.{same_key}
 use Rattle.layout.specs.Rule.{bit}
 use Rattle.history.specs.declared.operation.Operation.{Operation}
-use Rattle.history.specs.declared.operation.Operation.TheVariants.{Put, Drop}
-use Rattle.history.specs.declared.answer.Told.TheVariants.{Stored, Dropped}
+use Rattle.history.specs.declared.operation.Operation.TheVariants.{Put, Drop, Find}
+use Rattle.history.specs.declared.answer.Found.{Found as FindAnswer}
+use Rattle.history.specs.declared.answer.Stored.{Stored as PutAnswer}
+use Rattle.history.specs.declared.answer.Told.{Told}
+use Rattle.history.specs.declared.answer.Told.TheVariants.{Stored, Dropped, Found}
+use Rattle.history.specs.declared.fault.BookFault.{BookFault}
 use Rattle.history.specs.Rules.{Terms, Holdings, Answer, Rule}
 
 -- an operation with its answer
@@ -14,6 +18,23 @@ Event K V = Operation K V × Answer V
 -- what was asked of a book since it was opened, and what it answered, the oldest first
 abbrev pub History : Type 0 → Type 0 → Type 0
 History K V = List (Event K V)
+
+-- what a call gave, as an answer: what it did, told as `tell` says, or its refusal
+abbrev pub answer_of : {T V : Type 0} → (T → Told V) → Result T BookFault → Answer V
+answer_of tell (Ok x) = Ok (tell x)
+answer_of tell (Err e) = Err e
+
+-- a put as an event, with what it gave
+abbrev pub put_event : {K V : Type 0} → K → V → Result PutAnswer BookFault → Event K V
+put_event k v given = (Put k v, answer_of Stored given)
+
+-- a drop as an event, with what it gave
+abbrev pub drop_event : {K V : Type 0} → K → Result (Unit {0}) BookFault → Event K V
+drop_event k given = (Drop k, answer_of (λ _. Dropped) given)
+
+-- a find as an event, with what it gave
+abbrev pub find_event : {K V : Type 0} → K → FindAnswer V → Event K V
+find_event k given = (Find k, Ok (Found given))
 
 -- operations with their answers, in order
 unfoldable pub paired : {A B : Type 0} → List A → List B → List (A × B)

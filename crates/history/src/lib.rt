@@ -2,9 +2,11 @@
 #![tactic(auto)]
 
 mod answer;
+mod call;
 mod fault;
 mod operation;
 
 pub use answer::{Answer, Found, Stored, Told};
+pub use call::Call;
 pub use fault::BookFault;
 pub use operation::Operation;

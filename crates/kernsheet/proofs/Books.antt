@@ -15,7 +15,7 @@ use Rattle.book.specs.Books.{terms_of, held_by, fingerprints_of}
 use Rattle.book.specs.Standings.{Standing, Steady, terms_at}
 use Rattle.book.proofs.Holding.{Holds, holds_self, steady_self, steady_then}
 use Rattle.replay.specs.Replays.{Asked, Done}
-use Rattle.replay.proofs.Turns.{step, holds_on, rule_on}
+use Rattle.book.proofs.Turns.{step, holds_on, rule_on}
 use Rattle.history.specs.Beginnings.{nothing, list_terms}
 
 -- nothing in its table and in its filter: the number of each key, a filter of so many blocks, and a list of so many records

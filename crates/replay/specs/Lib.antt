@@ -1,3 +1,2 @@
 pub mod Replays
 pub mod Alone
-pub mod Texts

@@ -1,16 +1,15 @@
 //! Whole histories.
 ghost use Rattle.std.specs.Prelude.{◌≡◌, false, is_ok};
+ghost use Rattle.book.specs.Reached.{state, Extends};
 ghost use Rattle.book.specs.Standings.{standing, Steady};
-ghost use Rattle.replay.specs.Replays.{Asked, ReplayDone};
+ghost use Rattle.replay.specs.Replays.{Performs, IsReadOnly, ReplayDone};
 
-use crate::fault::ReplayFault;
 use book::{Book, find, open};
-use history::{Answer, Operation, Told};
+use history::{Answer, BookFault, Call, Operation, Told};
 use kinds::{Fingerprint, Kind};
-use std::alloc::Global;
 use tables::Table;
 
-/// One operation.
+/// One operation. A find, or an operation that is refused, leaves the table itself as it was.
 pub fn perform<K: Kind, X: Table<K>, P: Fingerprint<K>>(
     book: &mut Book<'_, '_, '_, '_, X, P>,
     operation: &Operation<K::Key, K::Value>,
@@ -19,9 +18,11 @@ pub fn perform<K: Kind, X: Table<K>, P: Fingerprint<K>>(
     ensures sound { X.Table.sound book.new.table.now }
     ensures steady { let at = standing X.Table.meaning X.Table.lender X.Table.beyond P.Fingerprint.number in
         Steady (at book.old) (at book.new) }
-    ensures asked { let at = standing X.Table.meaning X.Table.lender X.Table.beyond P.Fingerprint.number in
-        Asked K.Kind.bytes (at book.old) (at book.new) operation.now result }
-    ensures undone { is_ok result ≡ false → book.new.table.now ≡ book.old.table.now }
+    ensures done { let at = standing X.Table.meaning X.Table.lender X.Table.beyond P.Fingerprint.number in
+        Performs K.Kind.bytes (at book.old) (at book.new) operation.now result }
+    ensures law { let at = state X.Table.meaning P.Fingerprint.number in
+        Extends K.Kind.bytes (at book.old) (at book.new) (operation.now, result) }
+    ensures unwritten { IsReadOnly operation.now result → book.new.table.now ≡ book.old.table.now }
 {
     Ok(match operation {
         Operation::Put(key, value) => Told::Stored(book.put::<K>(*key, *value)?),
@@ -35,23 +36,23 @@ pub fn perform<K: Kind, X: Table<K>, P: Fingerprint<K>>(
     })
 }
 
-/// Opens the book, performs every operation in order, and gives their answers. The memory for these is reserved before anything is done.
+/// Opens the book, performs the operation of every call in order, and writes its answer beside it. Nothing is allocated. An opening that is refused leaves
+/// the calls as they were.
 pub fn replay<K: Kind, X: Table<K>, P: Fingerprint<K>>(
-    heap: Global,
     book: &mut Book<'_, '_, '_, '_, X, P>,
-    operations: &[Operation<K::Key, K::Value>],
-) -> Result<Vec<Answer<K::Value>>, ReplayFault>
+    calls: &mut [Call<K::Key, K::Value>],
+) -> Result<(), BookFault>
     requires { X.Table.sound book.old.table.now }
     ensures sound { X.Table.sound book.new.table.now }
     ensures steady { let at = standing X.Table.meaning X.Table.lender X.Table.beyond P.Fingerprint.number in
         Steady (at book.old) (at book.new) }
-    ensures law { ReplayDone K.Kind.bytes (P.Fingerprint.number book.old.by.now) book.old.filter.now book.new.filter.now (X.Table.meaning book.old.table.now) (X.Table.meaning book.new.table.now) operations.now result }
+    ensures law { let at = state X.Table.meaning P.Fingerprint.number in
+        ReplayDone K.Kind.bytes (at book.old) (at book.new) calls.old calls.new result }
     ensures undone { is_ok result ≡ false → book.new.table.now ≡ book.old.table.now }
 {
-    let mut answers = Vec::with_capacity(heap, operations.len())?;
     open::<K, X, P>(book.filter, book.table, book.by)?;
-    for operation in operations {
-        answers.push_reserved(perform::<K, X, P>(book, operation));
+    for call in calls.iter_mut() {
+        call.answer = Some(perform::<K, X, P>(book, &call.operation));
     }
-    Ok(answers)
+    Ok(())
 }

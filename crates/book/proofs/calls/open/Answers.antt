@@ -1,8 +1,10 @@
-use Rattle.std.proofs.Common.{◌≡◌, ◌<◌, ◌≤◌, [], length, ap, sym, ◌∙◌, subst, arith}
+use Rattle.std.proofs.Common.{◌≡◌, ◌<◌, ◌≤◌, [], Ok, length, ap, sym, ◌∙◌, subst, arith}
 use Rattle.filter.specs.Cuts.{cut_to}
 use Rattle.filter.specs.Filters.{SameFilter, words_of, cleared_over}
 use Rattle.filter.specs.declared.filter.Filter.{Filter}
 use Rattle.history.specs.declared.fault.BookFault.TheVariants.{Filter as FromFilter}
+use Rattle.book.specs.Books.{Opened}
+use Rattle.book.proofs.Reaching.{opened}
 use Rattle.book.proofs.Refusals.{add_refused, cut_by}
 use Rattle.book.proofs.Holding.{Holds, same_then, holds_none, holds_then, cleared_again}
 use Rattle.book.proofs.Opening.{filled_none, filled_free, filled_record, crowded_record, filled_all, crowded_all}
@@ -26,6 +28,7 @@ returns-in-Err g c =
     let t : SameFilter c.add.new.self c.clear-in-Err.new.self = c.clear-in-Err.ensures.same in
     let back : Holds f h _ = holds_then f e h [] _ (holds_none f e s c.clear.ensures.empty c.clear.ensures.words) c.loop-place.invariant.holds in
     record {
+      law = tt;
       filter = same_then f h c.clear-in-Err.new.self back.same (subst (λ (x : Filter). SameFilter x c.clear-in-Err.new.self) r.2 t);
       done = (
         c.into.ensures ∙ ap FromFilter r.0,
@@ -63,4 +66,9 @@ returns g c =
     let s : SameFilter f e = c.clear.ensures.same in
     let l : length m.rows ≤ c.loop-place.place = omega (arith, c.loop-place-test.false, c.places-place-end.ensures) in
     let d = filled_all number f e m s c.loop-place.filter c.loop-place.place l (holds_none f e s c.clear.ensures.empty c.clear.ensures.words) c.loop-place.invariant in
-    record { filter = d.0.same; done = (d.1, d.0.entries, d.0.words) }
+    let done : Opened number f c.loop-place.filter m (Ok tt) = (d.1, d.0.entries, d.0.words) in
+    record {
+      filter = d.0.same;
+      law = opened g.K.Kind.bytes g.met.K.Kind.apart f c.loop-place.filter m number (g.X.Table.proper c.args.table.now c.requires).once d.0.same done;
+      done = done;
+    }

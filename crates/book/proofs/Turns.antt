@@ -23,8 +23,7 @@ use Rattle.history.proofs.Keys.{numbers_same}
 use Rattle.history.proofs.Rolls.{length_keys, current_keys, numbers_changed, numbers_new, numbers_dropped}
 use Rattle.history.proofs.Answers.{rule_same}
 use Rattle.history.proofs.Histories.{Step}
-use Rattle.book.specs.Books.{terms_of, held_by, fingerprints_of}
-use Rattle.replay.specs.Replays.{Done}
+use Rattle.book.specs.Books.{terms_of, held_by, fingerprints_of, OperationDone}
 use Rattle.tables.proofs.Changes.{same_frame}
 use Rattle.book.proofs.Holding.{Holds, holds_alike, holds_more, holds_less, holds_own, holds_then, entries_alike}
 
@@ -51,7 +50,7 @@ module _ {K V : Type 0} (bytes : K → List ℕ) (apart : (a b : K) → bytes a 
   unchanged x y k e = ap (λ (z : Meaning K V). value_in bytes z k) e
 
   -- what the keys hold goes on by the operation
-  pub step : (h g : Filter) (x y : Meaning K V) (o : Operation K V) (a : Answer V) → Done bytes number h g x y o a → Step (o, a) (value_in bytes x) (value_in bytes y)
+  pub step : (h g : Filter) (x y : Meaning K V) (o : Operation K V) (a : Answer V) → OperationDone bytes number h g x y o a → Step (o, a) (value_in bytes x) (value_in bytes y)
   step h g x y (Put q w) (Ok (Stored Kept)) d =
       record { sets = λ k v e. revalued_own x y q k (Some w) d.2 e.0 ∙ sym e.1; keeps = λ k n. revalued_other x y q k (Some w) d.2 (λ e. n (Some w) (e, refl)) }
   step h g x y (Put q w) (Ok (Stored Changed)) d =
@@ -73,7 +72,7 @@ module _ {K V : Type 0} (bytes : K → List ℕ) (apart : (a b : K) → bytes a 
         subst (λ (z : Filter). Holds f z (fingerprints_of number f y)) (sym e) (subst (λ (z : Meaning K V). Holds f h (fingerprints_of number f z)) (sym d) holds)
 
     -- the filter holds the fingerprints of the keys that the table then has
-    pub holds_on : (o : Operation K V) (a : Answer V) → SameFilter h g → Rule (terms_of bytes number h x) (held_by bytes h x) o a → Done bytes number h g x y o a → Holds f g (fingerprints_of number f y)
+    pub holds_on : (o : Operation K V) (a : Answer V) → SameFilter h g → Rule (terms_of bytes number h x) (held_by bytes h x) o a → OperationDone bytes number h g x y o a → Holds f g (fingerprints_of number f y)
     holds_on (Put q w) (Ok (Stored Kept)) s r d =
         holds_more f h g (cut_to h.plan (number q)) (fingerprints_of number f x) (fingerprints_of number f y) holds s d.0 d.1
         (mark q (fingerprints_of number f x) (fingerprints_of number f y) (numbers_new bytes apart (λ k. cut_to f.plan (number k)) x y own own' q w r.1 d.2))
