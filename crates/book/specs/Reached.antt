@@ -25,22 +25,28 @@ state_of f m number = record { filter = f; table = m; number = number }
 abbrev pub state : {X P K V : Type 0} → (X → Meaning K V) → (P → K → ℕ) → Book X P → State K V
 state meaning number b = state_of b.filter.now (meaning b.table.now) (number b.by.now)
 
--- A book in state `start` was opened without refusal, history h was then performed on it, and nothing else changed its filter or its table: what holds of its
--- state `now`, and of the answers in h.
+-- A book in state `start` was opened without refusal, history h was then performed on it, and nothing
+-- else changed its filter or its table: what holds of its state `now`, and of the answers in h.
 pub record Reached {K V : Type 0} (bytes : K → List ℕ) (start now : State K V) (h : History K V) : Type 0 where
   -- the opening crowded no quotient
-  pub room : Roomy (slots_of start.filter) start.filter.plan.r (fingerprints_of start.number start.filter start.table)
+  pub room : Roomy (slots_of start.filter) start.filter.plan.r
+      (fingerprints_of start.number start.filter start.table)
   -- every answer is the one due
   pub law : Law (terms_of bytes start.number start.filter start.table) (value_in bytes start.table) h
-  -- each key has the value in the table that its last accepted put or drop gave, or else that of the opening
+  -- each key has the value in the table that its last accepted put or drop gave, or else that of the
+  -- opening
   pub values : Follows (value_in bytes start.table) h (value_in bytes now.table)
-  -- each current key, that is one with a value, stands at one place of the table, and no other key stands at any
+  -- each current key, that is one with a value, stands at one place of the table, and no other key
+  -- stands at any
   pub keys : Current bytes (value_in bytes now.table) (keys_of now.table.rows)
   -- the entries of the filter are the fingerprints of these keys, one for each
   pub entries : fingerprints now.filter ≡ sorted (fingerprints_of start.number start.filter now.table)
-  -- its words are those laid out from nothing with the fingerprints of the current keys, one for each, however these are listed; later words stay
+  -- its words are those laid out from nothing with the fingerprints of the current keys, one for
+  -- each, however these are listed; later words stay
   pub words : (ks : List K) → Current bytes (value_in bytes now.table) ks
-      → words_of now.filter ≡ laid_over start.filter.plan.r start.filter.blocks (map (λ k. cut_to start.filter.plan (start.number k)) ks) (words_of start.filter)
+      → words_of now.filter
+      ≡ laid_over start.filter.plan.r start.filter.blocks
+      (map (λ k. cut_to start.filter.plan (start.number k)) ks) (words_of start.filter)
   -- what never changes
   pub number : now.number ≡ start.number
   pub filter : SameFilter start.filter now.filter
@@ -48,8 +54,8 @@ pub record Reached {K V : Type 0} (bytes : K → List ℕ) (start now : State K 
 
 -- A filter without entries in front of a table without keys needs no opening.
 abbrev pub EmptyIsOpen : {K : Type 0} → (V : Type 0) → (K → List ℕ) → Type 0
-EmptyIsOpen {K} V bytes = (s : State K V) → Apart s.table.rows → fingerprints s.filter ≡ [] → keys_of s.table.rows ≡ []
-    → Reached bytes s s []
+EmptyIsOpen {K} V bytes = (s : State K V) → Apart s.table.rows → fingerprints s.filter ≡ []
+    → keys_of s.table.rows ≡ [] → Reached bytes s s []
 
 -- Event e, which leads from one state to another, goes on with every history that led there.
 abbrev pub Extends : {K V : Type 0} → (K → List ℕ) → State K V → State K V → Event K V → Type 0

@@ -10,8 +10,10 @@ use Rattle.book.specs.Books.{Opened, OperationDone}
 use Rattle.book.specs.Reached.{State, Reached}
 use Rattle.book.specs.Standings.{Standing, terms_at, held_at}
 
--- an operation on a book as it stands: the answer is the one that the rules give, and filter and table are what it makes of them
-pub record Performs {K V B : Type 0} (bytes : K → List ℕ) (before after : Standing K V B) (o : Operation K V) (a : Answer V) : Type 0 where
+-- an operation on a book as it stands: the answer is the one that the rules give, and filter and
+-- table are what it makes of them
+pub record Performs {K V B : Type 0} (bytes : K → List ℕ) (before after : Standing K V B)
+    (o : Operation K V) (a : Answer V) : Type 0 where
   pub answer : Rule (terms_at bytes before) (held_at bytes before) o a
   pub done : OperationDone bytes before.number before.filter after.filter before.table after.table o a
 
@@ -25,8 +27,10 @@ IsReadOnly o (Ok told) = ⊥
 abbrev pub call_of : {K V : Type 0} → Event K V → Call K V
 call_of e = record { operation = e.0; answer = Some e.1 }
 
--- The operations of the calls were performed in order, each stands with its answer beside it, and the book is where that history leads.
-pub record Replayed {K V : Type 0} (bytes : K → List ℕ) (start now : State K V) (before after : List (Call K V)) : Type 0 where
+-- The operations of the calls were performed in order, each stands with its answer beside it, and the
+-- book is where that history leads.
+pub record Replayed {K V : Type 0} (bytes : K → List ℕ) (start now : State K V)
+    (before after : List (Call K V)) : Type 0 where
   pub history : History K V
   -- the history has just the operations asked for
   pub operations : map (λ e. e.0) history ≡ map (λ c. c.operation) before
@@ -35,7 +39,8 @@ pub record Replayed {K V : Type 0} (bytes : K → List ℕ) (start now : State K
   -- the law of the book, of its answers, its table and its words
   pub reached : Reached bytes start now history
 
--- An opening is refused exactly where the held keys crowd some quotient: the filter is then empty, and no operation is done.
+-- An opening is refused exactly where the held keys crowd some quotient: the filter is then empty,
+-- and no operation is done.
 abbrev pub ReplayDone : {K V : Type 0} → (K → List ℕ) → State K V → State K V
     → List (Call K V) → List (Call K V) → Result (Unit {0}) BookFault → Type 0
 ReplayDone bytes start now before after (Ok done) = Replayed bytes start now before after

@@ -36,8 +36,8 @@ pub fn perform<K: Kind, X: Table<K>, P: Fingerprint<K>>(
     })
 }
 
-/// Opens the book, performs the operation of every call in order, and writes its answer beside it. Nothing is allocated. An opening that is refused leaves
-/// the calls as they were.
+/// Opens the book, performs the operation of every call in order, and writes its answer beside it.
+/// Nothing is allocated. An opening that is refused leaves the calls as they were.
 pub fn replay<K: Kind, X: Table<K>, P: Fingerprint<K>>(
     book: &mut Book<'_, '_, '_, '_, X, P>,
     calls: &mut [Call<K::Key, K::Value>],
