@@ -1,11 +1,12 @@
 -- A table over a square of cells, one for each pair of glyphs below the side of the square.
-use Rattle.std.specs.Prelude.{◌≡◌, ℕ, ◌+◌, ◌*◌, ◌/◌, ◌%◌, Bool, true, cond, ◌&&◌, List, ◌++◌, map, drop, replicate, ℤ, pos, negsuc, is_some, Some, None, Option, int_le, nat_le, nat_lt, slice_index_or}
+use Rattle.std.specs.Prelude.{◌≡◌, ℕ, ◌+◌, ◌*◌, ◌/◌, ◌%◌, Bool, true, cond, ◌&&◌, List, ◌++◌, map, drop, replicate, ℤ, pos, negsuc, is_some, Some, None, Option, int_le, nat_le, nat_lt, Ok, Err, Result, slice_index_or, slice_set}
 use Rattle.std.specs.List.{range_with_len}
 use Rattle.kinds.specs.declared.kern.Pair.{Pair}
 use Rattle.kinds.specs.Bytes.{pair_bytes}
 use Rattle.tables.specs.declared.record.Record.{Record}
 use Rattle.tables.specs.Rows.{lookup}
 use Rattle.tables.specs.Meaning.{Meaning}
+use Rattle.tables.specs.declared.fault.TableFault.{TableFault}
 
 -- the side of a square: the one that is asked for, or none where it is above 1,024 or there are not cells enough
 abbrev pub side_of : ℕ → ℕ → ℕ
@@ -59,3 +60,8 @@ beyond_grid side cells = drop (side * side) cells
 abbrev pub HeldPlace : ℕ → List ℤ → Pair → Option ℕ → Type 0
 HeldPlace side cells p (Some place) = (in_square side p ≡ true) × (place ≡ place_of side p) × (is_some (value_of (slice_index_or cells place free_cell)) ≡ true)
 HeldPlace side cells p None = lookup pair_bytes (grid_rows side cells) p ≡ None
+
+-- The cells after a call that writes a number for a pair: the cell of the pair holds it, and every other cell what it held. A refusal writes no cell.
+abbrev pub cells_after : ℕ → List ℤ → Pair → ℤ → Result (Unit {0}) TableFault → List ℤ
+cells_after side cells p number (Ok done) = slice_set cells (place_of side p) number
+cells_after side cells p number (Err fault) = cells

@@ -1,8 +1,9 @@
 -- The bytes of a key: those of its glyphs in order.
-use Rattle.std.specs.Prelude.{ℕ, ◌/◌, ◌%◌, List, [], ◌∷◌, take}
+use Rattle.std.specs.Prelude.{ℕ, ◌/◌, ◌%◌, List, [], ◌∷◌}
 use Rattle.kinds.specs.declared.kern.Pair.{Pair}
-use Rattle.kinds.specs.declared.key_bytes.KeyBytes.{KeyBytes}
 use Rattle.kinds.specs.declared.sequence.Sequence.{Sequence}
+use Rattle.kinds.specs.declared.sequence.SequenceBytes.{SequenceBytes}
+use Rattle.kinds.specs.declared.sequence.SequenceBytes.TheVariants.{Two, Three, Four}
 use Rattle.kinds.specs.Sequences.{glyphs_of}
 
 -- the bytes of some glyphs: two for each, the high one first
@@ -18,6 +19,8 @@ pair_bytes p = glyph_bytes (p.left ∷ p.right ∷ [])
 abbrev pub sequence_bytes : Sequence → List ℕ
 sequence_bytes s = glyph_bytes (glyphs_of s)
 
--- the bytes that a value of `KeyBytes` holds
-abbrev pub held_bytes : KeyBytes → List ℕ
-held_bytes b = take b.len b.at
+-- the bytes that a value of `SequenceBytes` holds
+abbrev pub bytes_held : SequenceBytes → List ℕ
+bytes_held (Two bytes) = bytes
+bytes_held (Three bytes) = bytes
+bytes_held (Four bytes) = bytes

@@ -1,9 +1,6 @@
 -- Glyphs and their bytes.
-use Rattle.std.specs.Prelude.{◌≡◌, ℕ, zero, suc, ◌*◌, ◌/◌, ◌%◌, ◌≤◌, true, List, [], ◌∷◌, length, take, nat_le, slice_index, refl}
-use Rattle.std.proofs.Common.{sym, ap, arith}
-use Rattle.std.proofs.Math.Seq.{take-nil}
-use Rattle.std.proofs.lemmas.Slice.Eq.{text_from_reads}
-use Rattle.std.proofs.lemmas.Bool.{and_from, le-leb}
+use Rattle.std.specs.Prelude.{◌≡◌, ℕ, ◌/◌, ◌%◌, true, List, [], ◌∷◌, length, refl}
+use Rattle.std.proofs.Common.{ap, arith}
 use Rattle.kinds.specs.declared.sequence.Sequence.{Sequence}
 use Rattle.kinds.specs.declared.sequence.Sequence.TheVariants.{Two, Three, Four}
 use Rattle.kinds.specs.declared.kern.Pair.{Pair}
@@ -55,19 +52,3 @@ sequence_one (Four a b c d) (Four x y z w) e = cc
 -- two sequences with the same bytes are one
 pub sequence_bytes_one : (r s : Sequence) → sequence_bytes r ≡ sequence_bytes s → r ≡ s
 sequence_bytes_one r s e = sequence_one r s (glyph_bytes_one (glyphs_of r) (glyphs_of s) e)
-
--- two to four glyphs are taken
-pub taken : (n : ℕ) → 2 ≤ n → n ≤ 4 → true ≡ two_to_four n
-taken n low high = sym (and_from (nat_le 2 n) (nat_le n 4) (le-leb 2 n low) (le-leb n 4 high))
-
--- four glyphs, written out
-pub four : (xs : List ℕ) → length xs ≡ 4 → xs ≡ slice_index xs 0 ∷ slice_index xs 1 ∷ slice_index xs 2 ∷ slice_index xs 3 ∷ []
-four xs e = text_from_reads xs _ e (refl, (refl, (refl, (refl, tt))))
-
--- the bytes of the first glyphs are the first bytes
-pub first_bytes : (n : ℕ) (xs : List ℕ) → take (2 * n) (glyph_bytes xs) ≡ glyph_bytes (take n xs)
-first_bytes zero xs = refl
-first_bytes (suc n) [] = take-nil (2 * suc n)
-first_bytes (suc n) (x ∷ xs) =
-    let e : 2 * suc n ≡ suc (suc (2 * n)) = omega arith in
-    rw e (ap (λ bs. x / 256 ∷ x % 256 ∷ bs) (first_bytes n xs))

@@ -6,6 +6,7 @@ ghost use Rattle.kinds.specs.Hashing.{fnv_small, fibonacci_small};
 use crate::hash::fnv1a;
 use crate::kern::{Kern, Pair};
 use crate::kind::Kind;
+use std::convert::AsSlice;
 
 /// A fingerprint of the keys of a kind: one 64-bit number for every key. Two keys may share one.
 pub trait Fingerprint<K: Kind> {

@@ -1,7 +1,7 @@
 ghost use Rattle.kinds.specs.Bytes.{pair_bytes};
 ghost use Rattle.kinds.specs.Glyphs.{pair_bytes_one};
 
-use crate::key_bytes::KeyBytes;
+use crate::glyphs::bytes_of_two;
 use crate::kind::Kind;
 
 /// Two glyphs that stand side by side.
@@ -19,12 +19,14 @@ impl Kind for Kern {
 
     type Value = i16;
 
+    type Bytes = [u8; 4];
+
     ghost bytes = { pair_bytes };
 
     ghost apart = { λ p q e. pair_bytes_one p q e };
 
-    fn bytes(key: &Pair) -> KeyBytes {
-        KeyBytes::of_glyphs([key.left, key.right, 0, 0], 2)
+    fn bytes(key: &Pair) -> [u8; 4] {
+        bytes_of_two(key.left, key.right)
     }
 
     fn same(a: &Pair, b: &Pair) -> bool {

@@ -2,9 +2,9 @@
 #![tactic(auto)]
 
 mod fingerprint;
+mod glyphs;
 mod hash;
 mod kern;
-mod key_bytes;
 mod kind;
 mod ligature;
 mod sequence;
@@ -12,7 +12,6 @@ mod sequence;
 pub use fingerprint::{Fibonacci, Fingerprint, Fnv1a, examples};
 pub use hash::fnv1a;
 pub use kern::{Kern, Pair};
-pub use key_bytes::KeyBytes;
 pub use kind::Kind;
 pub use ligature::{KeyFault, Ligature};
-pub use sequence::Sequence;
+pub use sequence::{Sequence, SequenceBytes};

@@ -3,9 +3,9 @@ ghost use Rattle.kinds.specs.Bytes.{sequence_bytes};
 ghost use Rattle.kinds.specs.Faults.{fault_number};
 ghost use Rattle.kinds.specs.Glyphs.{sequence_bytes_one};
 
-use crate::key_bytes::KeyBytes;
+use crate::glyphs::{bytes_of_four, bytes_of_three, bytes_of_two};
 use crate::kind::Kind;
-use crate::sequence::Sequence;
+use crate::sequence::{Sequence, SequenceBytes};
 use std::error::Error;
 use std::fmt;
 
@@ -47,15 +47,17 @@ impl Kind for Ligature {
 
     type Value = u16;
 
+    type Bytes = SequenceBytes;
+
     ghost bytes = { sequence_bytes };
 
     ghost apart = { λ a b e. sequence_bytes_one a b e };
 
-    fn bytes(key: &Sequence) -> KeyBytes {
+    fn bytes(key: &Sequence) -> SequenceBytes {
         match *key {
-            Sequence::Two(a, b) => KeyBytes::of_glyphs([a, b, 0, 0], 2),
-            Sequence::Three(a, b, c) => KeyBytes::of_glyphs([a, b, c, 0], 3),
-            Sequence::Four(a, b, c, d) => KeyBytes::of_glyphs([a, b, c, d], 4),
+            Sequence::Two(a, b) => SequenceBytes::Two(bytes_of_two(a, b)),
+            Sequence::Three(a, b, c) => SequenceBytes::Three(bytes_of_three(a, b, c)),
+            Sequence::Four(a, b, c, d) => SequenceBytes::Four(bytes_of_four(a, b, c, d)),
         }
     }
 

@@ -1,8 +1,10 @@
 ghost use Rattle.std.specs.Prelude.{◌≡◌, length, is_ok, MatchResult};
 ghost use Rattle.std.specs.List.{slice_get};
+ghost use Rattle.kinds.specs.Bytes.{bytes_held};
 ghost use Rattle.kinds.specs.Sequences.{glyphs_of, two_to_four};
 
 use crate::ligature::KeyFault;
+use std::convert::AsSlice;
 
 /// Two to four glyphs in a row.
 #[derive(Clone, Copy, PartialEq, Eq, Debug)]
@@ -45,6 +47,26 @@ impl Sequence {
             Sequence::Two(a, b) => [a, b].get(i).copied(),
             Sequence::Three(a, b, c) => [a, b, c].get(i).copied(),
             Sequence::Four(a, b, c, d) => [a, b, c, d].get(i).copied(),
+        }
+    }
+}
+
+/// The bytes of a sequence: two for each glyph.
+#[derive(Clone, Copy)]
+pub enum SequenceBytes {
+    Two([u8; 4]),
+    Three([u8; 6]),
+    Four([u8; 8]),
+}
+
+impl AsSlice<u8> for SequenceBytes {
+    ghost items = { bytes_held };
+
+    fn as_slice(&self) -> &[u8] {
+        match self {
+            SequenceBytes::Two(bytes) => bytes,
+            SequenceBytes::Three(bytes) => bytes,
+            SequenceBytes::Four(bytes) => bytes,
         }
     }
 }

@@ -1,7 +1,9 @@
 //! The calls on a grid table.
-ghost use Rattle.std.specs.Prelude.{◌≡◌, ◌<◌, List, length, ℤ, if◌then◌else◌, Some, None, slice_index_or};
-ghost use Rattle.gridtable.specs.Grids.{side_of, in_square, place_of, free_cell, value_of, grid_meaning, empty_grid, emptied, beyond_grid, HeldPlace};
+ghost use Rattle.std.specs.Prelude.{◌≡◌, ◌<◌, false, List, length, is_ok, ℤ, if◌then◌else◌, Some, None, slice_index_or};
+ghost use Rattle.gridtable.specs.Grids.{side_of, in_square, cells_after, place_of, free_cell, value_of, grid_meaning, empty_grid, emptied, beyond_grid, HeldPlace};
 ghost use Rattle.gridtable.specs.Propers.{proper_grid};
+ghost use Rattle.kinds.specs.Bytes.{pair_bytes};
+ghost use Rattle.tables.specs.Meaning.{SameFrame, SetDone, RemoveDone};
 
 use crate::grid::GridTable;
 use kinds::{Kern, Pair};
@@ -125,7 +127,19 @@ impl<'a> Table<Kern> for GridTable<'a> {
         self.capacity()
     }
 
-    fn set(&mut self, key: Pair, value: i16) -> Result<(), TableFault> {
+    fn set(&mut self, key: Pair, value: i16) -> Result<(), TableFault>
+        ensures frame { SameFrame (grid_meaning self.old.side self.old.cells.now)
+            (grid_meaning self.new.side self.new.cells.now) }
+        ensures lender { self.new.cells.ghost_name ≡ self.old.cells.ghost_name }
+        ensures beyond { beyond_grid self.new.side self.new.cells.now
+            ≡ beyond_grid self.old.side self.old.cells.now }
+        ensures done { SetDone pair_bytes (grid_meaning self.old.side self.old.cells.now)
+            (grid_meaning self.new.side self.new.cells.now) key value result }
+        ensures undone { is_ok result ≡ false → self.new ≡ self.old }
+        ensures side { self.new.side ≡ self.old.side }
+        ensures cells { self.new.cells.now
+            ≡ cells_after self.old.side self.old.cells.now key value result }
+    {
         let place = self.place(key).ok_or(TableFault::ForeignGlyph)?;
         let added = u32::from(self.value_at(place).is_none());
         self.cells[place] = i32::from(value);
@@ -133,7 +147,19 @@ impl<'a> Table<Kern> for GridTable<'a> {
         Ok(())
     }
 
-    fn remove(&mut self, key: Pair) -> Result<(), TableFault> {
+    fn remove(&mut self, key: Pair) -> Result<(), TableFault>
+        ensures frame { SameFrame (grid_meaning self.old.side self.old.cells.now)
+            (grid_meaning self.new.side self.new.cells.now) }
+        ensures lender { self.new.cells.ghost_name ≡ self.old.cells.ghost_name }
+        ensures beyond { beyond_grid self.new.side self.new.cells.now
+            ≡ beyond_grid self.old.side self.old.cells.now }
+        ensures done { RemoveDone pair_bytes (grid_meaning self.old.side self.old.cells.now)
+            (grid_meaning self.new.side self.new.cells.now) key result }
+        ensures undone { is_ok result ≡ false → self.new ≡ self.old }
+        ensures side { self.new.side ≡ self.old.side }
+        ensures cells { self.new.cells.now
+            ≡ cells_after self.old.side self.old.cells.now key free_cell result }
+    {
         let place = self.held_place(key).ok_or(TableFault::NotHeld)?;
         self.cells[place] = FREE;
         self.held -= 1;

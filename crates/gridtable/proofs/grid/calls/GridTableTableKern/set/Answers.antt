@@ -43,14 +43,16 @@ returns c =
     let at = chosen (in_square table.side c.args.key) (place_of table.side c.args.key) place (sym c.in_ok-place.ensures.ok_part ∙ c.place.ensures) in
     let f : SFits w32 c.from.result = search rules in
     let added : c.from-added.result ≡ from_bool (is_none c.value_at.result) = search rules in
+    let wrote = ap (λ v. set cells place v) (to_z-of_z w32 c.from.result f ∙ c.from.ensures ∙ to_z-of_z w16 c.args.value c.ranges.value) in
     let t = written table.side cells table.room c.args.key at.0 table.held c.args.value place (table.held + c.from-added.result) (set cells place (to_z w32 (of_z w32 c.from.result)))
-    (value_is c.args.value c.ranges.value) table.counted at.1 (ap (λ v. set cells place v) (to_z-of_z w32 c.from.result f ∙ c.from.ensures ∙ to_z-of_z w16 c.args.value c.ranges.value))
+    (value_is c.args.value c.ranges.value) table.counted at.1 wrote
     (one_more table.held c.from-added.result (value_of (get_or cells place free_cell)) (added ∙ ap (λ o. from_bool (is_none o)) c.value_at.ensures)) in
     record {
-      sound = tt;
       frame = t.frame;
       lender = refl;
       beyond = t.beyond;
       done = (at.0, held_or_room table.side cells table.room c.args.key at.0, t.revalued);
       undone = λ e. let z : ◌≡◌ {A = ℕ} 0 1 = cc in absurd (omega arith);
+      side = refl;
+      cells = wrote ∙ ap (λ n. set cells n c.args.value) at.1;
     }
