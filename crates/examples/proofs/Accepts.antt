@@ -69,14 +69,6 @@ pub three_narrow : many_from 8 (1287 ∷ 1289 ∷ 1539 ∷ []) 64 ≡ 0
 unfolding quotient
 three_narrow = refl
 
-pub over_room : Roomy 128 8 (16128 ∷ 16129 ∷ 16130 ∷ [])
-unfolding quotient laid
-over_room = (room_law 128 8 (16128 ∷ 16129 ∷ 16130 ∷ []) (omega arith)).1 (omega arith)
-
-pub over_narrow : many_from 8 (16128 ∷ 16129 ∷ 16130 ∷ []) 64 ≡ 0
-unfolding quotient
-over_narrow = refl
-
 pub zeros_narrow : (n c : ℕ) → many_from 8 (replicate n 0) (suc c) ≡ 0
 unfolding quotient
 zeros_narrow zero c = refl

@@ -1,4 +1,5 @@
 pub mod Words
 pub mod Refusals
 pub mod Accepts
+pub mod Lasts
 pub mod Selects

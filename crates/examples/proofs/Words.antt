@@ -1,11 +1,10 @@
 -- The words and the entries of a filter after calls.
-use Rattle.std.proofs.Common.{◌≡◌, ℕ, ◌+◌, List, [], ◌∷◌, get_or, replicate, Some, sym, refl, ap, ◌∙◌, subst, ap₂, arith}
+use Rattle.std.proofs.Common.{◌≡◌, ℕ, ◌+◌, List, [], ◌∷◌, get_or, replicate, sym, refl, ap, ◌∙◌, subst, ap₂, arith}
 use Rattle.words.specs.Bits.{bits}
 use Rattle.layout.specs.Rule.{quotient, remainder, insert, sorted, laid, layout, at, others, offset_at}
 use Rattle.layout.specs.Format.{block_word, filter_words}
 use Rattle.layout.specs.Laws.{count}
 use Rattle.layout.proofs.Sorts.{count_here, sorted_same_counts}
-use Rattle.filter.specs.Slots.{slot_shown}
 use Rattle.filter.specs.Filters.{fingerprints}
 use Rattle.filter.specs.declared.filter.Filter.{Filter}
 use Rattle.examples.specs.Examples.{block_words, Sized, AfterAdds, AfterTake}
@@ -59,18 +58,6 @@ three_words = refl
 pub two_words : filter_words 8 1 (1289 ∷ 1539 ∷ []) ≡ 96 ∷ 96 ∷ 0 ∷ 0x0003_0900_0000_0000 ∷ replicate 7 0
 unfolding filter_words block_word bits quotient remainder insert sorted laid at others offset_at
 two_words = refl
-
--- the second block of two with three entries of quotient 63
-pub over_words : (get_or (filter_words 8 2 (16128 ∷ 16129 ∷ 16130 ∷ [])) 12 0 ≡ 2) × (get_or (filter_words 8 2 (16128 ∷ 16129 ∷ 16130 ∷ [])) 13 0 ≡ 2)
-unfolding filter_words block_word bits quotient remainder insert sorted laid at others offset_at
-over_words = (refl, refl)
-
-pub over_slots :
-    (slot_shown 8 (16128 ∷ 16129 ∷ 16130 ∷ []) 63 ≡ Some (record { 0 = 63 }, 0))
-    × (slot_shown 8 (16128 ∷ 16129 ∷ 16130 ∷ []) 64 ≡ Some (record { 0 = 63 }, 1))
-    × (slot_shown 8 (16128 ∷ 16129 ∷ 16130 ∷ []) 65 ≡ Some (record { 0 = 63 }, 2))
-unfolding quotient remainder laid at
-over_slots = (refl, refl, refl)
 
 -- the offset of each of three blocks, of any list
 offset_words : (ps : List ℕ)

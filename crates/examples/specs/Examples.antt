@@ -1,14 +1,17 @@
 -- Worked examples. Each is about every filter of the named size, and about what the calls promise, whatever was done to it before.
 -- Quotients have 6 bits and remainders 8: the quotient of fingerprint p is p / 256, and a block has 11 words.
-use Rattle.std.specs.Prelude.{◌≡◌, ℕ, ◌+◌, min, ◌↔◌, List, [], ◌∷◌, ◌++◌, take, replicate, Some, None, Ok, Err, Option, Result, slice_index}
+use Rattle.std.specs.Prelude.{◌≡◌, ℕ, ◌+◌, ◌<◌, ◌≤◌, min, ◌↔◌, List, [], ◌∷◌, ◌++◌, length, take, replicate, Some, None, Ok, Err, Option, Result, slice_index}
+use Rattle.std.specs.List.{AllByRecursion as Every}
+use Rattle.std.specs.Borrow.{MutBor}
 use Rattle.words.specs.Bits.{ones_under, Selected}
-use Rattle.layout.specs.Rule.{quotient, sorted}
+use Rattle.layout.specs.Rule.{quotient, remainder, sorted}
 use Rattle.filter.specs.Meaning.{size_of}
 use Rattle.filter.specs.Slots.{slot_shown}
-use Rattle.filter.specs.Filters.{words_of, fingerprints, Added, Taken}
+use Rattle.filter.specs.Filters.{words_of, fingerprints, Begun, Added, Taken}
 use Rattle.filter.specs.Faults.{number_of}
 use Rattle.filter.specs.declared.fault.FilterFault.{FilterFault}
 use Rattle.filter.specs.declared.fault.FilterFault.TheVariants.{NoSlot}
+use Rattle.filter.specs.declared.plan.Plan.{Plan}
 use Rattle.filter.specs.declared.filter.Filter.{Filter}
 use Rattle.kinds.specs.Hashes.{fibonacci}
 
@@ -44,9 +47,22 @@ abbrev pub NoneRefused : ℕ → List ℕ → Type 0
 NoneRefused b all = (f g h : Filter) (ps : List ℕ) (p : ℕ) (rest : List ℕ) (res : Result (Unit {0}) FilterFault) → Sized f b → fingerprints f ≡ []
     → sorted (ps ++ p ∷ rest) ≡ all → AfterAdds f ps g → Added g h p res → res ≡ Ok tt
 
+-- three fingerprints of the last quotient of a block, 63; some may be equal
+pub record ThreeOfLast (ps : List ℕ) : Type 0 where
+  pub three : length ps ≡ 3
+  pub last : Every (λ p. quotient 8 p ≡ 63) ps
+
+-- slot s of f shows that quotient and the remainder of p
+abbrev pub ShowsLast : Filter → ℕ → ℕ → Type 0
+ShowsLast f s p = slot_shown f.plan.r (fingerprints f) s ≡ Some (record { 0 = 63 }, remainder 8 p)
+
 pub record Examples : Type 0 where
-  -- one block without entries: all 11 words are 0
-  pub empty_block : (f : Filter) → Sized f 1 → fingerprints f ≡ [] → block_words f ≡ replicate 11 0
+  -- what `begin` gives over 11 words, or up to 21: one block, and all 11 words of it are 0
+  pub empty_block : (p : Plan) (lent : MutBor (List ℕ)) (f : Filter) → p.q ≡ 6 → p.r ≡ 8
+      → 11 ≤ length lent.now → length lent.now < 22 → Begun p lent f
+      → (f.blocks ≡ 1) × (block_words f ≡ replicate 11 0)
+  -- one block without entries, however it came to that: all 11 words are 0
+  pub no_entries : (f : Filter) → Sized f 1 → fingerprints f ≡ [] → block_words f ≡ replicate 11 0
   -- 1287, 1289 and 1539 added to one empty block in any order: quotients 5, 5 and 6, in slots 5 to 7
   pub three_entries : (f g : Filter) (ps : List ℕ) → Sized f 1 → fingerprints f ≡ []
       → sorted ps ≡ 1287 ∷ 1289 ∷ 1539 ∷ [] → AfterAdds f ps g
@@ -62,16 +78,16 @@ pub record Examples : Type 0 where
   -- and it is not refused
   pub take_accepted : (g h : Filter) (res : Result (Unit {0}) FilterFault) → Sized g 1 → fingerprints g ≡ 1287 ∷ 1289 ∷ 1539 ∷ []
       → Taken g h 1287 res → res ≡ Ok tt
-  -- Two blocks, and three entries of the last quotient of the first block, 63: they lie in slots 63, 64 and 65.
+  -- Two blocks, and any three entries of the last quotient of the first block, added in any order: they lie in slots 63, 64 and 65, in rising order.
   -- So the second block has a runend bit at its slot 1, and its offset is 2.
   pub run_over : (f g : Filter) (ps : List ℕ) → Sized f 2 → fingerprints f ≡ []
-      → sorted ps ≡ 16128 ∷ 16129 ∷ 16130 ∷ [] → AfterAdds f ps g
-      → (slot_shown g.plan.r (fingerprints g) 63 ≡ Some (record { 0 = 63 }, 0))
-      × (slot_shown g.plan.r (fingerprints g) 64 ≡ Some (record { 0 = 63 }, 1))
-      × (slot_shown g.plan.r (fingerprints g) 65 ≡ Some (record { 0 = 63 }, 2))
+      → ThreeOfLast ps → AfterAdds f ps g
+      → ShowsLast g 63 (slice_index (sorted ps) 0)
+      × ShowsLast g 64 (slice_index (sorted ps) 1)
+      × ShowsLast g 65 (slice_index (sorted ps) 2)
       × (slice_index (block_words g) 12 ≡ 2) × (slice_index (block_words g) 13 ≡ 2)
   -- and none of the three is refused
-  pub run_over_accepted : NoneRefused 2 (16128 ∷ 16129 ∷ 16130 ∷ [])
+  pub run_over_accepted : (ps : List ℕ) → ThreeOfLast ps → NoneRefused 2 (sorted ps)
   -- one block with an entry of the last quotient, 63: a second one is refused
   pub last_quotient_full : (f g : Filter) (a p : ℕ) (res : Result (Unit {0}) FilterFault) → Sized f 1
       → fingerprints f ≡ a ∷ [] → quotient 8 a ≡ 63 → quotient 8 p ≡ 63 → Added f g p res → res ≡ Err NoSlot

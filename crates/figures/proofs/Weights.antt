@@ -4,7 +4,8 @@ use Rattle.std.proofs.lemmas.Int.{ints}
 use Rattle.figures.specs.declared.FigureFault.{FigureFault}
 use Rattle.figures.specs.declared.FigureFault.TheVariants.{Unreadable, TooLarge}
 use Rattle.figures.specs.Figures.{Figure, Whole}
-use Rattle.figures.specs.Amounts.{Amount, Within, Weighed}
+use Rattle.figures.specs.Numbers.{Within}
+use Rattle.figures.specs.Amounts.{Amount, Weighed}
 
 too_low : (xs ds : List ℕ) (v : ℕ) → xs ≡ 45 ∷ ds → Whole ds v → 32768 < v → (z : ℤ) × (Within z → ⊥) × Amount xs z
 too_low xs ds v e (m, f, h) big = let same : m ≡ suc (m - 1) = omega arith in (negsuc (m - 1), λ w. omega arith, (ds, e, subst (Figure ds) same f))

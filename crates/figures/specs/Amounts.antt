@@ -1,9 +1,10 @@
 -- What the glyph numbers and the value of a line are.
-use Rattle.std.specs.Prelude.{◌≡◌, ℕ, suc, ◌<◌, ◌≤◌, ◌⊎◌, List, ◌∷◌, ◌++◌, ℤ, pos, negsuc, Ok, Err, Result}
+use Rattle.std.specs.Prelude.{◌≡◌, ℕ, suc, ◌<◌, ◌⊎◌, List, ◌∷◌, ◌++◌, ℤ, pos, negsuc, Ok, Err, Result}
 use Rattle.std.specs.Borrow.{Bor}
 use Rattle.figures.specs.declared.FigureFault.{FigureFault}
 use Rattle.figures.specs.declared.FigureFault.TheVariants.{Unreadable, TooLarge}
 use Rattle.figures.specs.Figures.{Figure, Stops, NoFigure}
+use Rattle.figures.specs.Numbers.{Glyph, Within}
 
 -- bytes begin with the figure of n, and rest follows it
 pub record Begins (bytes : List ℕ) (n : ℕ) (rest : List ℕ) : Type 0 where
@@ -14,7 +15,7 @@ pub record Begins (bytes : List ℕ) (n : ℕ) (rest : List ℕ) : Type 0 where
 
 -- what is read of bytes that are to begin with a glyph number
 abbrev pub Glyphed : List ℕ → Result (ℕ × Bor (List ℕ)) FigureFault → Type 0
-Glyphed bytes (Ok p) = (p.0 ≤ 65535) × Begins bytes p.0 p.1.now
+Glyphed bytes (Ok p) = Glyph p.0 × Begins bytes p.0 p.1.now
 Glyphed bytes (Err TooLarge) = (n : ℕ) × (rest : List ℕ) × (65535 < n) × Begins bytes n rest
 Glyphed bytes (Err Unreadable) = NoFigure bytes
 
@@ -22,11 +23,6 @@ Glyphed bytes (Err Unreadable) = NoFigure bytes
 abbrev pub Amount : List ℕ → ℤ → Type 0
 Amount bytes (pos n) = Figure bytes n
 Amount bytes (negsuc n) = (ds : List ℕ) × (bytes ≡ 45 ∷ ds) × Figure ds (suc n)
-
--- from -32,768 to 32,767
-abbrev pub Within : ℤ → Type 0
-Within (pos n) = n ≤ 32767
-Within (negsuc n) = suc n ≤ 32768
 
 -- what is read of bytes that are to be a value
 abbrev pub Weighed : List ℕ → Result ℤ FigureFault → Type 0
@@ -46,6 +42,6 @@ pub record PairLine (bytes : List ℕ) (a b : ℕ) (z : ℤ) : Type 0 where
 
 -- what is read of bytes that are to be two glyph numbers and a value
 abbrev pub Paired : List ℕ → Result (ℕ × ℕ × ℤ) FigureFault → Type 0
-Paired bytes (Ok p) = (p.0 ≤ 65535) × (p.1 ≤ 65535) × Within p.2 × PairLine bytes p.0 p.1 p.2
+Paired bytes (Ok p) = Glyph p.0 × Glyph p.1 × Within p.2 × PairLine bytes p.0 p.1 p.2
 Paired bytes (Err TooLarge) = (a : ℕ) × (b : ℕ) × (z : ℤ) × PairLine bytes a b z × ((65535 < a) ⊎ ((65535 < b) ⊎ (Within z → ⊥)))
 Paired bytes (Err Unreadable) = (a b : ℕ) (z : ℤ) → PairLine bytes a b z → ⊥

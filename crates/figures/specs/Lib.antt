@@ -1,4 +1,5 @@
 pub mod Figures
+pub mod Numbers
 pub mod Amounts
 pub mod Lines
 pub mod Coming

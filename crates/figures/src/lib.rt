@@ -8,9 +8,13 @@
 ghost use Rattle.std.specs.Prelude.{◌≡◌, ◌<◌, ◌≤◌, ◌++◌, MatchResult, min};
 ghost use Rattle.std.specs.Str.Parse.{AllDigits, digits_value};
 ghost use Rattle.figures.specs.Figures.{Stops, Read, NoFigure, Whole, NoWhole, Spaced, NoSpaced, Natural};
-ghost use Rattle.figures.specs.Amounts.{Glyphed, Within, Weighed, Paired};
+ghost use Rattle.figures.specs.Amounts.{Glyphed, Weighed, Paired};
 
 pub mod lines;
+mod numbers;
+
+pub use numbers::glyph_number;
+use numbers::value_number;
 
 /// Why bytes are not the numbers that were asked for. A wrong form comes before a number that is too large.
 #[derive(Clone, Copy, PartialEq, Eq, Debug)]
@@ -64,17 +68,6 @@ pub fn natural(bytes: &[u8]) -> Option<u64>
     }
 }
 
-/// The glyph number that a number is, if it is at most 65,535.
-pub fn glyph_number(number: u32) -> Result<u16, FigureFault>
-    ensures { MatchResult result (λ g. (g ≡ number) × (number ≤ 65535)) (λ e. (e ≡ FigureFault.TooLarge) × (65535 < number)) }
-{
-    // kept: the project's form for figures that were read, a match whose guard shows the limit that the contract names
-    match number {
-        n if n <= 65535 => Ok(n as u16),
-        _ => Err(FigureFault::TooLarge),
-    }
-}
-
 /// The glyph number that the bytes begin with, and what follows it.
 pub fn glyph(bytes: &[u8]) -> Result<(u16, &[u8]), FigureFault>
     ensures { Glyphed bytes.now result }
@@ -90,17 +83,6 @@ pub fn whole(bytes: &[u8]) -> Result<u32, FigureFault>
     match figure(bytes)? {
         (n, []) => Ok(n),
         _ => Err(FigureFault::Unreadable),
-    }
-}
-
-// The value that a number is, if it is from -32,768 to 32,767.
-fn value_number(number: i64) -> Result<i16, FigureFault>
-    ensures { MatchResult result (λ v. (v ≡ number) × Within number) (λ e. (e ≡ FigureFault.TooLarge) × (Within number → ⊥)) }
-{
-    // kept: as for a glyph number
-    match number {
-        n if (-32768..=32767).contains(&n) => Ok(n as i16),
-        _ => Err(FigureFault::TooLarge),
     }
 }
 

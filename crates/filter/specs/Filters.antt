@@ -1,7 +1,8 @@
 -- A filter's meaning, and what its calls promise.
 use Rattle.std.specs.Prelude.{◌≡◌, ℕ, ◌+◌, ◌*◌, ◌^◌, ◌<◌, ◌≤◌, Bool, List, [], ◌∷◌, ◌++◌, length, take, drop, replicate, Ok, Err, Result, nat_lt, slice_index}
+use Rattle.std.specs.Borrow.{MutBor}
 use Rattle.layout.specs.Rule.{quotient, sorted, insert, remove, layout, used_at, Crowded, Roomy}
-use Rattle.layout.specs.Format.{filter_words}
+use Rattle.layout.specs.Format.{block_count, filter_words}
 use Rattle.layout.specs.Laws.{count}
 use Rattle.filter.specs.Meaning.{size_of, entries_of}
 use Rattle.filter.specs.declared.fault.FilterFault.{FilterFault}
@@ -34,6 +35,15 @@ laid_over r blocks ps ws = filter_words r blocks ps ++ drop (size_of r blocks) w
 -- all words of the blocks 0, and what stood after them
 abbrev pub cleared_over : ℕ → ℕ → List ℕ → List ℕ
 cleared_over r blocks ws = replicate (size_of r blocks) 0 ++ drop (size_of r blocks) ws
+
+-- What beginning a filter under plan p over lent words gives: f. It has as many whole blocks as there are words for, at most 16,640, and no entry; all words
+-- of its blocks are 0, and those after them stay.
+pub record Begun (p : Plan) (lent : MutBor (List ℕ)) (f : Filter) : Type 0 where
+  pub plan : f.plan ≡ p
+  pub blocks : f.blocks ≡ block_count p.r (length lent.now)
+  pub empty : fingerprints f ≡ []
+  pub words : words_of f ≡ cleared_over p.r f.blocks lent.now
+  pub lender : f.words.ghost_name ≡ lent.ghost_name
 
 -- The words ws of the blocks of f depend on its entries alone, not on what was asked of it before: any filter of that plan and size that holds the same
 -- entries has these words, and only such a one has them.

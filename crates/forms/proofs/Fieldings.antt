@@ -1,9 +1,10 @@
 -- The fields of the forms.
 use Rattle.std.proofs.Common.{Option, ◌≡◌, ℕ, ◌<◌, List, [], ◌++◌, length, codes, sym, ap, ◌∙◌, subst, append-nil, arith}
 use Rattle.figures.specs.Figures.{Figure, Spaced, Whole, NoWhole}
+use Rattle.figures.specs.Numbers.{Glyph}
 use Rattle.figures.proofs.Pairs.{tails}
 use Rattle.forms.specs.declared.row.Row.{Row}
-use Rattle.forms.specs.Rows.{Numbers, Glyph, Rowed, NoRow}
+use Rattle.forms.specs.Rows.{Numbers, Rowed, NoRow}
 use Rattle.forms.specs.Shapes.{Couple, Joined}
 use Rattle.forms.proofs.Rows.{same_row, ends_nil, ends_as}
 

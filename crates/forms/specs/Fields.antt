@@ -5,9 +5,10 @@ use Rattle.kinds.specs.declared.kern.Pair.{Pair}
 use Rattle.kinds.specs.declared.sequence.Sequence.{Sequence}
 use Rattle.kinds.specs.declared.ligature.KeyFault.TheVariants.{BadSequence}
 use Rattle.kinds.specs.Sequences.{glyphs_of, two_to_four}
+use Rattle.figures.specs.Numbers.{Glyph}
 use Rattle.forms.specs.declared.fault.LineFault.{LineFault}
 use Rattle.forms.specs.declared.fault.LineFault.TheVariants.{LongLine, Unreadable, TooLarge, Key}
-use Rattle.forms.specs.Rows.{Numbers, Glyph}
+use Rattle.forms.specs.Rows.{Numbers}
 use Rattle.forms.specs.Shapes.{Couple, Joined}
 
 -- of bytes that are to be two glyph numbers

@@ -5,12 +5,11 @@ use Rattle.history.specs.declared.operation.Operation.TheVariants.{Put, Drop, Fi
 use Rattle.kinds.specs.declared.sequence.Sequence.{Sequence}
 use Rattle.kinds.specs.declared.ligature.KeyFault.TheVariants.{BadSequence}
 use Rattle.kinds.specs.Sequences.{glyphs_of, two_to_four}
-use Rattle.figures.specs.Amounts.{Within}
+use Rattle.figures.specs.Numbers.{Glyph, Within}
 use Rattle.forms.specs.declared.command.Command.{Command}
 use Rattle.forms.specs.declared.command.Command.TheVariants.{Kern, Ligature}
 use Rattle.forms.specs.declared.fault.LineFault.{LineFault}
 use Rattle.forms.specs.declared.fault.LineFault.TheVariants.{LongLine, Unreadable, TooLarge, Key}
-use Rattle.forms.specs.Rows.{Glyph}
 use Rattle.forms.specs.Shapes.{Shape, pair, drop, find, lig, unlig, seek, Written}
 
 -- all numbers are in their ranges

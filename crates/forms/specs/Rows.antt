@@ -1,7 +1,8 @@
 -- Rows of numbers with single spaces between, and what is kept of one.
-use Rattle.std.specs.Prelude.{◌≡◌, ℕ, ◌<◌, ◌≤◌, List, [], ◌∷◌, ◌++◌, length, Some, None, Option, ◌≢◌}
+use Rattle.std.specs.Prelude.{◌≡◌, ℕ, ◌<◌, List, [], ◌∷◌, ◌++◌, length, Some, None, Option, ◌≢◌}
 use Rattle.std.specs.List.{AllByRecursion as Every}
 use Rattle.figures.specs.Figures.{Figure, Stops}
+use Rattle.figures.specs.Numbers.{Glyph}
 use Rattle.kinds.specs.Sequences.{glyphs_of}
 use Rattle.forms.specs.declared.row.Row.{Row}
 use Rattle.forms.specs.declared.row.Row.TheVariants.{One, Several, Many}
@@ -20,10 +21,6 @@ Numbers bytes (n ∷ ns) = Series bytes n ns
 pub record Ends (rest : List ℕ) : Type 0 where
   pub stops : Stops rest
   pub apart : (more : List ℕ) → rest ≡ 32 ∷ more → Stops more
-
--- a glyph number
-abbrev pub Glyph : ℕ → Type 0
-Glyph n = n ≤ 65535
 
 -- the glyph number that n is, or none
 abbrev pub Numbered : Option ℕ → ℕ → Type 0

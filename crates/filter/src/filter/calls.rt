@@ -1,7 +1,6 @@
 //! The calls on the whole filter.
-ghost use Rattle.std.specs.Prelude.{◌≡◌, true, false, [], length};
-ghost use Rattle.layout.specs.Format.{block_count};
-ghost use Rattle.filter.specs.Filters.{SameFilter, words_of, fingerprints, cleared_over, Narrow, Wide, LaidOut};
+ghost use Rattle.std.specs.Prelude.{◌≡◌, true, false, []};
+ghost use Rattle.filter.specs.Filters.{SameFilter, Begun, words_of, fingerprints, cleared_over, Narrow, Wide, LaidOut};
 
 use crate::fault::FilterFault;
 use crate::filter::Filter;
@@ -20,11 +19,7 @@ fn all_admitted(plan: Plan, list: &[u64]) -> bool
 impl<'a> Filter<'a> {
     /// An empty filter over lent words: as many whole blocks as there are words for, at most 16,640, all of their words 0. Words after the blocks stay.
     pub fn begin(plan: Plan, words: &'a mut [u64]) -> Filter<'a>
-        ensures plan { result.plan ≡ plan }
-        ensures blocks { result.blocks ≡ block_count plan.r (length words.old) }
-        ensures empty { fingerprints result ≡ [] }
-        ensures words { words_of result ≡ cleared_over plan.r result.blocks words.old }
-        ensures name { result.words.ghost_name ≡ words.entry.ghost_name }
+        ensures { Begun plan words.entry result }
     {
         let blocks = plan.blocks_of(words.len());
         words[..plan.size_of(blocks)].fill(0);

@@ -24,4 +24,4 @@ returns c =
     let room = subst (λ n. size_of r n ≤ length ws) (sym c.blocks_of-blocks.ensures) (size_room r (length ws)) in
     let is = filled c.size_of.result (size_of r b) ws c.fill.new.self c.size_of.ensures room (c.fill.ensures.after (λ y e. e)) in
     let len : length ws ≡ length (c.fill.new.self ++ drop c.size_of.result ws) = search rules in
-    record { plan = refl; blocks = c.blocks_of-blocks.ensures; empty = none_held c.args.plan b ws _ (c.blocks_of-blocks.ensures ∙ ap (block_count r) len) is; words = is; name = refl }
+    record { plan = refl; blocks = c.blocks_of-blocks.ensures; empty = none_held c.args.plan b ws _ (c.blocks_of-blocks.ensures ∙ ap (block_count r) len) is; words = is; lender = refl }
