@@ -33,16 +33,16 @@ performed {K} {V} bytes number plan words ws capacity held m n before after empt
     let over : start.table ≡ empty_list capacity = d.begins.2 ∙ empty in
     let opening : value_in bytes start.table ≡ nothing = ap (λ (x : Meaning K V). value_in bytes x) over ∙ (λ i k. lookup_none V bytes capacity k i) in
     let terms : terms_of bytes start.number f start.table ≡ list_terms bytes number plan blocks capacity =
-        ap (λ (x : Meaning K V). terms_of bytes start.number f x) over
-        ∙ ap (λ (p : Plan). list_terms bytes start.number p f.blocks capacity) d.begins.0
-        ∙ ap (λ b. list_terms bytes start.number plan b capacity) d.begins.1
-        ∙ ap (λ (q : K → ℕ). list_terms bytes q plan blocks capacity) d.begins.3 in
+    ap (λ (x : Meaning K V). terms_of bytes start.number f x) over
+    ∙ ap (λ (p : Plan). list_terms bytes start.number p f.blocks capacity) d.begins.0
+    ∙ ap (λ b. list_terms bytes start.number plan b capacity) d.begins.1
+    ∙ ap (λ (q : K → ℕ). list_terms bytes q plan blocks capacity) d.begins.3 in
     let marks = λ (q : K → ℕ) (p : Plan) (ks : List K). map (λ k. cut_to p (q k)) ks in
     let laid : (q : K → ℕ) → q ≡ number → (ks : List K) → words_of now.filter ≡ laid_over f.plan.r f.blocks (marks q f.plan ks) (words_of f)
-        → take (size_of plan.r blocks) ws ≡ filter_words plan.r blocks (marks number plan ks) = λ q e ks l.
-        subst (λ (q : K → ℕ). take (size_of plan.r blocks) ws ≡ filter_words plan.r blocks (marks q plan ks)) e
-        (subst₂ (λ (p : Plan) (b : ℕ). take (size_of p.r b) ws ≡ filter_words p.r b (marks q p ks)) d.begins.0 d.begins.1
-        (ap (take (size_of f.plan.r f.blocks)) (d.ends.0 ∙ l) ∙ front f.plan.r f.blocks (marks q f.plan ks) (drop (size_of f.plan.r f.blocks) (words_of f)))) in
+    → take (size_of plan.r blocks) ws ≡ filter_words plan.r blocks (marks number plan ks) = λ q e ks l.
+    subst (λ (q : K → ℕ). take (size_of plan.r blocks) ws ≡ filter_words plan.r blocks (marks q plan ks)) e
+    (subst₂ (λ (p : Plan) (b : ℕ). take (size_of p.r b) ws ≡ filter_words p.r b (marks q p ks)) d.begins.0 d.begins.1
+    (ap (take (size_of f.plan.r f.blocks)) (d.ends.0 ∙ l) ∙ front f.plan.r f.blocks (marks q f.plan ks) (drop (size_of f.plan.r f.blocks) (words_of f)))) in
     record {
       history = d.replayed.history;
       asked = d.replayed.operations;

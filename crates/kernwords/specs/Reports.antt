@@ -1,6 +1,6 @@
 -- What is printed in answer to a text of edits.
 use Rattle.std.specs.Prelude.{◌≡◌, ℕ, ◌+◌, ◌*◌, ◌⊎◌, min, List, [], ◌∷◌, ◌++◌, ℤ, map, flat_map, Ok, Err, codes, decimal, vec_items, IfSome, Option, Result}
-use Rattle.std.specs.Io.KnownBytes.{Appends, IsAtEnd}
+use Rattle.std.specs.Io.KnownBytes.{Appends, Consumes, IsAtEnd}
 use Rattle.figures.specs.Lines.{lines_of}
 use Rattle.kinds.specs.Bytes.{pair_bytes, sequence_bytes}
 use Rattle.kinds.specs.Hashes.{fibonacci, fnv}
@@ -69,12 +69,19 @@ pub record Shown (request : Option Request) (given left : Option (List ℕ)) (sh
 abbrev pub Sizable : Option Request → Type 0
 Sizable request = (size : Size) × KernSized request (Ok size)
 
+-- what is left is what was given, but for some of its first bytes
+abbrev pub Reads : Option (List ℕ) → Option (List ℕ) → Type 0
+Reads given left = (bytes : List ℕ) × Consumes given left bytes
+
 -- What is printed, where o and p are the bytes printed before and after: that text. Or a plan is out of range, and then nothing is read and nothing printed;
 -- or memory lacks, and then nothing is printed; or a stream fails, and then nothing is printed, or a beginning of that text.
-abbrev pub PrintDone : Option Request → Option (List ℕ) → Option (List ℕ) → Option (List ℕ) → Option (List ℕ) → Result (Unit {0}) Fault → Type 0
-PrintDone request given left o p (Ok done) = (shown : List ℕ) × Shown request given left shown × Appends o p shown
-PrintDone request given left o p (Err (Filter f)) = KernSized request (Err f) × (left ≡ given) × (p ≡ o)
+abbrev pub PrintDone : Option Request → Option (List ℕ) → Option (List ℕ)
+    → Option (List ℕ) → Option (List ℕ) → Result (Unit {0}) Fault → Type 0
+PrintDone request given left o p (Ok done) =
+    (shown : List ℕ) × Shown request given left shown × Appends o p shown
+PrintDone request given left o p (Err (Filter f)) =
+    KernSized request (Err f) × (left ≡ given) × (p ≡ o)
 PrintDone request given left o p (Err Arguments) = ⊥
-PrintDone request given left o p (Err Memory) = Sizable request × (p ≡ o)
-PrintDone request given left o p (Err Stream) =
-    Sizable request × ((p ≡ o) ⊎ ((shown : List ℕ) × Shown request given left shown × Begins o p shown))
+PrintDone request given left o p (Err Memory) = Sizable request × Reads given left × (p ≡ o)
+PrintDone request given left o p (Err Stream) = Sizable request × Reads given left
+    × ((p ≡ o) ⊎ ((shown : List ℕ) × Shown request given left shown × Begins o p shown))
