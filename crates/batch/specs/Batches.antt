@@ -1,18 +1,28 @@
 -- A text of commands, sorted by book.
-use Rattle.std.specs.Prelude.{◌≡◌, ℕ, List, [], ◌∷◌, ◌++◌, ℤ, Ok, Err, Result}
+use Rattle.std.specs.Prelude.{◌≡◌, ℕ, List, [], ◌∷◌, ◌++◌, ℤ, map, All, None, Ok, Err, Result, vec_items}
 use Rattle.kinds.specs.declared.kern.Pair.{Pair}
 use Rattle.kinds.specs.declared.sequence.Sequence.{Sequence}
+use Rattle.history.specs.declared.call.Call.{Call}
 use Rattle.history.specs.declared.operation.Operation.{Operation}
 use Rattle.forms.specs.Meaning.{Meant}
 use Rattle.forms.specs.declared.command.Command.{Command}
 use Rattle.forms.specs.declared.command.Command.TheVariants as command
 use Rattle.forms.specs.declared.fault.LineFault.{LineFault}
+use Rattle.batch.specs.declared.lines.Batch.{Batch}
 use Rattle.batch.specs.declared.lines.BookKind.{BookKind}
 use Rattle.batch.specs.declared.lines.BookKind.TheVariants.{Kern, Ligature}
 
 -- where a line goes: to a book, or nowhere, by its fault
 abbrev pub Destination : Type 0
 Destination = Result BookKind LineFault
+
+-- what calls ask
+abbrev pub operations : {K V : Type 0} → List (Call K V) → List (Operation K V)
+operations calls = map (λ c. c.operation) calls
+
+-- no call of a batch was performed yet
+abbrev pub Unanswered : Batch → Type 0
+Unanswered b = All (λ c. c.answer ≡ None) (vec_items b.kerns) × All (λ c. c.answer ≡ None) (vec_items b.ligatures)
 
 -- Each line has a destination. One that means an operation of a book goes there, and its operation is the next of that book's; any other goes nowhere, by
 -- its fault.

@@ -3,7 +3,7 @@ ghost use Rattle.batch.specs.Reports.{refused_text};
 
 use answers::Refusal;
 use forms::LineFault;
-use history::Operation;
+use history::Call;
 use kinds::{Pair, Sequence};
 use std::fmt;
 
@@ -19,13 +19,13 @@ pub enum BookKind {
 /// Where a line goes: to a book, or nowhere, since it is refused before a book is asked.
 pub type Destination = Result<BookKind, LineFault>;
 
-/// The lines of a text, sorted by book.
+/// The lines of a text, sorted by book. What a book answers is written into its calls.
 #[derive(Drop)]
 pub struct Batch {
-    /// The operations of the kerning book, in the order of their lines.
-    pub kerns: Vec<Operation<Pair, i16>>,
-    /// The operations of the ligature book, in the order of their lines.
-    pub ligatures: Vec<Operation<Sequence, u16>>,
+    /// The calls of the kerning book, in the order of their lines.
+    pub kerns: Vec<Call<Pair, i16>>,
+    /// The calls of the ligature book, in the order of their lines.
+    pub ligatures: Vec<Call<Sequence, u16>>,
     /// Where each line goes.
     pub lines: Vec<Destination>,
 }

@@ -3,27 +3,29 @@ ghost use Rattle.std.specs.Prelude.{◌≡◌, IfOk};
 ghost use Rattle.std.specs.Slice.Iter.{iter_rest};
 ghost use Rattle.batch.specs.Reports.{refused_from, Asked, Told};
 
-use crate::lines::{BookKind, Destination, RefusedLine};
+use crate::lines::{Batch, BookKind, Destination, RefusedLine};
 use answers::Refusal;
-use history::Answer;
+use history::Call;
+use kinds::{Pair, Sequence};
 use std::alloc::{AllocError, Global};
 use std::slice::Iter;
 
-// Why the next answer is a refusal, if it is one. Past the last answer none is.
-fn next_refusal<V: Copy>(answers: &mut Iter<'_, Answer<V>>) -> Option<Refusal>
-    ensures { Asked (iter_rest answers.old) result (iter_rest answers.new) }
+// Why the next call was refused, if it was. One that has no answer was not, and past the last call there is none.
+fn next_refusal<Q: Copy, V: Copy>(calls: &mut Iter<'_, Call<Q, V>>) -> Option<Refusal>
+    ensures { Asked (iter_rest calls.old) result (iter_rest calls.new) }
 {
-    answers.next()?.err().map(Refusal::Book)
+    calls.next()?.answer?.err().map(Refusal::Book)
 }
 
-// Why a line is refused, if it is. It takes the next answer of the book that it went to.
+// Why a line is refused, if it is. It takes the next call of the book that it went to.
 #[tactic(auto, unfolding(crate::specs::Reports::refused_from))]
 fn refusal_of(
     destination: Destination,
-    kerns: &mut Iter<'_, Answer<i16>>,
-    ligatures: &mut Iter<'_, Answer<u16>>,
+    kerns: &mut Iter<'_, Call<Pair, i16>>,
+    ligatures: &mut Iter<'_, Call<Sequence, u16>>,
 ) -> Option<Refusal>
-    ensures { Told destination (iter_rest kerns.old) (iter_rest ligatures.old) result (iter_rest kerns.new) (iter_rest ligatures.new) }
+    ensures { Told destination (iter_rest kerns.old) (iter_rest ligatures.old) result
+        (iter_rest kerns.new) (iter_rest ligatures.new) }
 {
     match destination {
         Ok(BookKind::Kern) => next_refusal(kerns),
@@ -32,20 +34,16 @@ fn refusal_of(
     }
 }
 
-/// The lines that are refused, in order, by their destinations and by what each book answered to the operations that it got.
+/// The lines that are refused, in order, by their destinations and by what each book answered to its calls. A call that was not performed is not refused.
 #[tactic(auto, unfolding(crate::specs::Reports::refused_from))]
-pub fn refused_lines(
-    heap: Global,
-    lines: &[Destination],
-    kerns: &[Answer<i16>],
-    ligatures: &[Answer<u16>],
-) -> Result<Vec<RefusedLine>, AllocError>
-    ensures { IfOk result (λ v. v.items ≡ refused_from 1 lines.now kerns.now ligatures.now) }
+pub fn refused_lines(heap: Global, batch: &Batch) -> Result<Vec<RefusedLine>, AllocError>
+    ensures { IfOk result (λ refused. refused.items
+        ≡ refused_from 1 batch.now.lines.items batch.now.kerns.items batch.now.ligatures.items) }
 {
     let mut refused = Vec::new(heap);
-    let mut kerns_left = kerns.iter();
-    let mut ligatures_left = ligatures.iter();
-    for (i, destination) in lines.iter().enumerate() {
+    let mut kerns_left = batch.kerns.iter();
+    let mut ligatures_left = batch.ligatures.iter();
+    for (i, destination) in batch.lines.iter().enumerate() {
         if let Some(fault) = refusal_of(*destination, &mut kerns_left, &mut ligatures_left) {
             refused.push(RefusedLine { line: i + 1, fault })?;
         }

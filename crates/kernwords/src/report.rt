@@ -1,24 +1,15 @@
 //! What is printed: the refused lines, and both books.
-ghost use Rattle.std.specs.Prelude.{◌≡◌, MatchResult, Some};
+ghost use Rattle.std.specs.Prelude.{IfOk, Some};
 ghost use Rattle.kernwords.specs.Reports.{book_text, report_text, Reported};
 
-use crate::books::outcome_of;
+use crate::books::{BookWords, book_after};
 use crate::sizes::{Size, ligature_size};
 use batch::{RefusedLine, batch_of, refused_lines};
-use console::fault::Fault;
 use console::storage::Blocks;
 use kinds::{Fibonacci, Fnv1a, Kern, Ligature, Pair, Sequence};
-use std::alloc::Global;
+use std::alloc::{AllocError, Global};
 use std::fmt;
 use tables::Record;
-
-/// A book as it is printed: a line with its size and how many keys it holds, and a line for each block of its filter.
-#[derive(Drop)]
-struct BookWords {
-    size: Size,
-    held: u32,
-    words: Vec<u64>,
-}
 
 /// What is printed in answer to a text.
 #[derive(Drop)]
@@ -28,6 +19,7 @@ pub struct Report {
     ligatures: BookWords,
 }
 
+/// A line with its size and how many keys it holds, and a line for each block of its filter.
 impl fmt::Display for BookWords {
     ghost output = { λ b. Some (book_text b) };
 
@@ -55,50 +47,36 @@ impl fmt::Display for Report {
 }
 
 /// What the lines of a text make of a kerning book of this size and of a ligature book, both empty at first.
-pub fn report_of(heap: Global, size: Size, text: &[u8]) -> Result<Report, Fault>
-    ensures { MatchResult result (Reported size text.now) (λ e. e ≡ Fault.Memory) }
+pub fn report_of(heap: Global, size: Size, text: &[u8]) -> Result<Report, AllocError>
+    ensures { IfOk result (Reported size text.now) }
 {
-    let ligature_size = ligature_size();
-    let batch = batch_of(heap, text)?;
+    let mut batch = batch_of(heap, text)?;
     let no_kern = Record {
         key: Pair { left: 0, right: 0 },
         value: 0i16,
     };
-    let kerns = outcome_of::<Kern, Fibonacci>(
+    let kerns = book_after::<Kern, Fibonacci>(
         heap,
         size,
         no_kern,
         &Fibonacci,
-        batch.kerns.as_slice(),
+        batch.kerns.as_mut_slice(),
     )?;
     let no_ligature = Record {
         key: Sequence::Two(0, 0),
         value: 0u16,
     };
-    let ligatures = outcome_of::<Ligature, Fnv1a>(
+    let ligatures = book_after::<Ligature, Fnv1a>(
         heap,
-        ligature_size,
+        ligature_size(),
         no_ligature,
         &Fnv1a,
-        batch.ligatures.as_slice(),
+        batch.ligatures.as_mut_slice(),
     )?;
-    let refused = refused_lines(
-        heap,
-        batch.lines.as_slice(),
-        kerns.answers.as_slice(),
-        ligatures.answers.as_slice(),
-    )?;
+    let refused = refused_lines(heap, &batch)?;
     Ok(Report {
         refused,
-        kerns: BookWords {
-            size,
-            held: kerns.held,
-            words: kerns.words,
-        },
-        ligatures: BookWords {
-            size: ligature_size,
-            held: ligatures.held,
-            words: ligatures.words,
-        },
+        kerns,
+        ligatures,
     })
 }

@@ -4,14 +4,14 @@ use batch::{BookKind, RefusedLine, batch_of, refused_lines};
 use figures::lines::next_line;
 use figures::{FigureFault, natural, pair_fields};
 use forms::LineFault;
-use history::{Answer, BookFault, Stored, Told};
+use history::{BookFault, Stored, Told};
 use std::alloc::AllocError;
 use std::test::Fail;
 
 #[test]
 fn tells_the_refused_lines(rt: HostRuntime) -> Result<(), AllocError> {
     let text = b"pair 1 2 -3\nhello\nlig 1 2 as 3\ndrop 4 5";
-    let batch = batch_of(rt.alloc(), text)?;
+    let mut batch = batch_of(rt.alloc(), text)?;
     assert_eq!(rt; batch.kerns.len(), 2);
     assert_eq!(rt; batch.ligatures.len(), 1);
     let lines = [
@@ -21,12 +21,10 @@ fn tells_the_refused_lines(rt: HostRuntime) -> Result<(), AllocError> {
         Ok(BookKind::Kern),
     ];
     assert_eq!(rt; batch.lines.as_slice(), lines.as_slice());
-    let kerns: [Answer<i16>; 2] = [
-        Ok(Told::Stored(Stored::Kept)),
-        Err(BookFault::StrangeFilter),
-    ];
-    let ligatures: [Answer<u16>; 1] = [Ok(Told::Stored(Stored::Kept))];
-    let refused = refused_lines(rt.alloc(), &lines, &kerns, &ligatures)?;
+    batch.kerns[0].answer = Some(Ok(Told::Stored(Stored::Kept)));
+    batch.kerns[1].answer = Some(Err(BookFault::StrangeFilter));
+    batch.ligatures[0].answer = Some(Ok(Told::Stored(Stored::Kept)));
+    let refused = refused_lines(rt.alloc(), &batch)?;
     let expected = [
         RefusedLine {
             line: 2,

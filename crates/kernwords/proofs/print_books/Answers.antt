@@ -1,13 +1,35 @@
+use Rattle.std.proofs.Common.{◌≡◌, Err, inl, refl, rules}
+use Rattle.console.specs.declared.fault.Fault.TheVariants.{Memory}
+use Rattle.kernwords.specs.Reports.{Shown}
+use Rattle.kernwords.proofs.Printing.{unprinted, printed}
 use Rattle.kernwords.proofs.print_books.Goals as goal
 
+pub returns-in_err-text : goal.returns-in_err-text
+returns-in_err-text g c =
+    let why : c.from_residual-in_err-text.result ≡ Err c.in_err-text.field-0.0 = search rules in
+    rw why (unprinted _ _ _ c.in_err-text.ensures.in_order c.in_ok-kern.kern _ c.in_ok-kern.ensures c.in_err-text.field-0.0 c.in_err-text.ensures.fault)
+
+pub returns-in_err-report : goal.returns-in_err-report
+returns-in_err-report g c =
+    let why : c.from_residual-in_err-report.result ≡ Err Memory = search rules in
+    rw why (unprinted _ _ _ c.in_ok-text.ensures.in_order c.in_ok-kern.kern _ c.in_ok-kern.ensures Memory (inl refl))
+
+pub returns-in_err-shown : goal.returns-in_err-shown
+returns-in_err-shown g c =
+    let why : c.from_residual-in_err-shown.result ≡ Err Memory = search rules in
+    rw why (unprinted _ _ _ c.in_ok-text.ensures.in_order c.in_ok-kern.kern _ c.in_ok-kern.ensures Memory (inl refl))
+
 pub returns : goal.returns
-returns g c = record {
-  size = c.in_ok-kern.kern;
-  sized = c.in_ok-kern.ensures;
-  text = c.as_slice.result.now;
-  read = rw c.as_slice.ensures.value c.in_ok-text.ensures.text;
-  all = c.in_ok-text.ensures.all;
-  report = c.in_ok-report.report;
-  reported = c.in_ok-report.ensures;
-  said = c.in_ok-write.ensures.bytes;
-}
+returns g c =
+    let shown : Shown c.args.request (g.R.Read.remaining c.args.input.now) (g.R.Read.remaining c.read_text.new.input) c.as_bytes.result.now =
+    record {
+      size = c.in_ok-kern.kern;
+      sized = c.in_ok-kern.ensures;
+      text = c.as_slice.result.now;
+      read = rw c.as_slice.ensures.value c.in_ok-text.ensures.text;
+      all = c.in_ok-text.ensures.all;
+      report = c.in_ok-report.report;
+      reported = c.in_ok-report.ensures;
+      said = search rules;
+    } in
+    printed _ _ _ c.in_ok-text.ensures.in_order c.as_bytes.result.now _ _ c.send.result shown c.send.ensures
