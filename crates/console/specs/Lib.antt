@@ -1,3 +1,4 @@
 pub mod Requests
 pub mod Texts
+pub mod Sending
 pub mod Endings

@@ -3,6 +3,7 @@
 #![tactic(auto)]
 
 pub mod fault;
+pub mod output;
 pub mod program;
 pub mod request;
 pub mod storage;
