@@ -11,7 +11,6 @@ use Rattle.history.specs.declared.answer.Stored.{Stored}
 use Rattle.history.specs.declared.answer.Stored.TheVariants as stored
 use Rattle.history.specs.declared.answer.Found.{Found}
 use Rattle.history.specs.declared.answer.Found.TheVariants as found
-use Rattle.history.specs.declared.answer.Told.{Told}
 use Rattle.history.specs.declared.answer.Told.TheVariants as told
 use Rattle.history.specs.declared.fault.BookFault.{BookFault}
 use Rattle.history.specs.declared.fault.BookFault.TheVariants.{Filter, Table, StrangeFilter}
