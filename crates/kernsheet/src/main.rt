@@ -48,11 +48,14 @@ fn answer_lines<X: Table<Kern>, P: Fingerprint<Kern>, Y: Table<Ligature>, Q: Fin
     requires few { length (lines_left lines) ≤ 65535 }
     requires kerns { X.Table.sound kerns.old.table.now }
     requires ligatures { Y.Table.sound ligatures.old.table.now }
-    requires fresh_kerns { IsFresh pair_bytes (state X.Table.meaning P.Fingerprint.number kerns.old) }
-    requires fresh_ligatures { IsFresh sequence_bytes (state Y.Table.meaning Q.Fingerprint.number ligatures.old) }
+    requires fresh_kerns { let kern = state X.Table.meaning P.Fingerprint.number kerns.old in
+        IsFresh pair_bytes kern }
+    requires fresh_ligatures { let ligature = state Y.Table.meaning Q.Fingerprint.number ligatures.old in
+        IsFresh sequence_bytes ligature }
     ensures { let kern = state X.Table.meaning P.Fingerprint.number kerns.old in
         let ligature = state Y.Table.meaning Q.Fingerprint.number ligatures.old in
-        IfOk result (λ text. LinesAnswered (terms pair_bytes kern) (terms sequence_bytes ligature) [] [] 1
+        IfOk result (λ text.
+        LinesAnswered (terms pair_bytes kern) (terms sequence_bytes ligature) [] [] 1
         (lines_left lines.entry) text.items) }
 {
     let mut text = Vec::new(heap);
@@ -116,7 +119,8 @@ fn answer_sheet(heap: Global, sheet: &[u8]) -> Result<Vec<u8>, AllocError>
 
 /// The sheet that an input has, but no more bytes than show that it is too long.
 fn read_sheet<R: Read + Drop>(heap: Global, input: R) -> Result<Vec<u8>, Fault>
-    ensures sheet { IfOk result (λ sheet. IfSome (R.remaining input) (λ bytes. sheet.items ≡ take 65536 bytes)) }
+    ensures sheet { IfOk result (λ sheet.
+        IfSome (R.remaining input) (λ bytes. sheet.items ≡ take 65536 bytes)) }
     ensures fault { IfErr result (λ fault. (fault ≡ Memory) ⊎ (fault ≡ Stream)) }
 {
     read_text(heap, &mut input.take(MOST))

@@ -22,12 +22,15 @@ fn answer<X: Table<Kern>, P: Fingerprint<Kern>, Y: Table<Ligature>, Q: Fingerpri
     ensures kerns { X.Table.sound kerns.new.table.now }
     ensures ligatures { Y.Table.sound ligatures.new.table.now }
     ensures steady { let kern = standing X.Table.meaning X.Table.lender X.Table.beyond P.Fingerprint.number in
-        let ligature = standing Y.Table.meaning Y.Table.lender Y.Table.beyond Q.Fingerprint.number in
-        Steady (kern kerns.old) (kern kerns.new) × Steady (ligature ligatures.old) (ligature ligatures.new) }
+        let ligature = standing Y.Table.meaning Y.Table.lender Y.Table.beyond
+        Q.Fingerprint.number in
+        Steady (kern kerns.old) (kern kerns.new)
+        × Steady (ligature ligatures.old) (ligature ligatures.new) }
     ensures done { let kern = whole X.Table.meaning X.Table.lender X.Table.beyond P.Fingerprint.number in
-        let ligature = whole Y.Table.meaning Y.Table.lender Y.Table.beyond Q.Fingerprint.number in
-        LineDone (kern kerns.old) (kern kerns.new) (ligature ligatures.old) (ligature ligatures.new)
-        line.now result }
+        let ligature = whole Y.Table.meaning Y.Table.lender Y.Table.beyond
+        Q.Fingerprint.number in
+        LineDone (kern kerns.old) (kern kerns.new)
+        (ligature ligatures.old) (ligature ligatures.new) line.now result }
 {
     match command_of(line)? {
         Command::Kern(operation) => Ok(Done::Kern(perform::<Kern, X, P>(kerns, &operation)?)),
@@ -53,12 +56,15 @@ pub fn do_line<X: Table<Kern>, P: Fingerprint<Kern>, Y: Table<Ligature>, Q: Fing
     ensures kerns { X.Table.sound kerns.new.table.now }
     ensures ligatures { Y.Table.sound ligatures.new.table.now }
     ensures steady { let kern = standing X.Table.meaning X.Table.lender X.Table.beyond P.Fingerprint.number in
-        let ligature = standing Y.Table.meaning Y.Table.lender Y.Table.beyond Q.Fingerprint.number in
-        Steady (kern kerns.old) (kern kerns.new) × Steady (ligature ligatures.old) (ligature ligatures.new) }
+        let ligature = standing Y.Table.meaning Y.Table.lender Y.Table.beyond
+        Q.Fingerprint.number in
+        Steady (kern kerns.old) (kern kerns.new)
+        × Steady (ligature ligatures.old) (ligature ligatures.new) }
     ensures written { let kern = whole X.Table.meaning X.Table.lender X.Table.beyond P.Fingerprint.number in
-        let ligature = whole Y.Table.meaning Y.Table.lender Y.Table.beyond Q.Fingerprint.number in
-        LineWritten (kern kerns.old) (kern kerns.new) (ligature ligatures.old) (ligature ligatures.new)
-        number line.now buf.old buf.new result }
+        let ligature = whole Y.Table.meaning Y.Table.lender Y.Table.beyond
+        Q.Fingerprint.number in
+        LineWritten (kern kerns.old) (kern kerns.new)
+        (ligature ligatures.old) (ligature ligatures.new) number line.now buf.old buf.new result }
 {
     if buf.len() < 32 {
         return Err(SheetFault {
