@@ -1,3 +1,4 @@
 pub mod Printed
 pub mod Served
 pub mod Sendings
+pub mod Readings

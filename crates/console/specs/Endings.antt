@@ -10,6 +10,7 @@ use Rattle.console.specs.declared.fault.Fault.TheVariants.{Memory, Stream, Argum
 use Rattle.console.specs.declared.request.Request.{Request}
 use Rattle.console.specs.Requests.{Requested}
 use Rattle.console.specs.Texts.{refused_text}
+use Rattle.console.specs.Sending.{Begins}
 
 -- what a program prints last: the line of the refusal that ends its work, if one does
 abbrev pub last_text : Result (Unit {0}) Fault → List ℕ
@@ -35,30 +36,58 @@ Output W = MutBor (BufWriter W Global)
 abbrev pub Work : Type 0 → Type 1
 Work W = Output W → Option Request → Result (Unit {0}) Fault → Output W → Type 0
 
--- Work was done for what arguments ask for, and a writer became sent by it; contents are what a writer holds, where that is known.
-pub record Served {W : Type 0} (contents : W → Option (List ℕ)) (prints : Work W) (arguments : List (String Global)) (to sent : W) : Type 0 where
+-- How a program ends what work printed, where done is how the work ended, and old and new are the buffer before and after: the last line is printed, and the
+-- writer has all. Or the work ended as it may not, and nothing more is printed; or a stream fails, and the writer and its buffer have a beginning of that.
+abbrev pub Concluded : {W : Type 0} → (W → Option (List ℕ)) → Result (Unit {0}) Fault → BufWriter W Global → BufWriter W Global → Result (Unit {0}) Fault → Type 0
+Concluded contents done old new (Ok ended) =
+    Ended done × (writer_buffer new ≡ []) × Appends (writer_contents contents old) (contents (writer_inner new)) (last_text done)
+Concluded contents done old new (Err fault) =
+    ((Ended done → ⊥) × (done ≡ Err fault) × (new ≡ old))
+    ⊎ (Ended done × (fault ≡ Stream) × Begins (writer_contents contents old) (writer_contents contents new) (last_text done))
+
+-- Work was done for a request, or for none, that arguments ask for: it began with the buffer old, and left it as between.
+pub record Worked {W : Type 0} (prints : Work W) (arguments : List (String Global)) (done : Result (Unit {0}) Fault) (old between : BufWriter W Global) : Type 0 where
   -- the words after the program's own name ask for a request, or for none
   pub request : Option Request
   pub asked : Requested (drop 1 arguments) (Ok request)
-  -- the output began as a buffer over the writer, with nothing in it
+  -- the work took the output from the one to the other
   pub out : Output W
-  pub over : writer_inner out.now ≡ to
-  pub empty : writer_buffer out.now ≡ []
-  -- the work took it to after, and ended as it may
-  pub done : Result (Unit {0}) Fault
+  pub before : out.now ≡ old
   pub after : Output W
+  pub left : after.now ≡ between
   pub printed : prints out request done after
+
+-- Work was done for what arguments ask for, and a buffer became new by it; contents are what a writer holds, where that is known.
+pub record Served {W : Type 0} (contents : W → Option (List ℕ)) (prints : Work W) (arguments : List (String Global)) (old new : BufWriter W Global) : Type 0 where
+  -- the work ended as it may
+  pub done : Result (Unit {0}) Fault
   pub ended : Ended done
+  pub between : BufWriter W Global
+  pub worked : Worked prints arguments done old between
   -- the writer has all that the writer or its buffer had after the work, then the last line, and no more
-  pub last : Appends (writer_contents contents after.now) (contents sent) (last_text done)
+  pub last : Appends (writer_contents contents between) (contents (writer_inner new)) (last_text done)
+  pub empty : writer_buffer new ≡ []
 
--- Why that is not so: memory lacks, a stream fails, the arguments are refused, or the work ends as it may not.
-abbrev pub Unserved : {W : Type 0} → Work W → List (String Global) → Fault → Type 0
-Unserved {W} prints arguments fault =
-    (fault ≡ Memory) ⊎ ((fault ≡ Stream) ⊎ (Requested (drop 1 arguments) (Err fault)
-    ⊎ ((request : Option Request) × (out : Output W) × (after : Output W)
-    × Requested (drop 1 arguments) (Ok request) × prints out request (Err fault) after × (Ended (Err fault) → ⊥))))
+-- Why that is not so: the arguments are refused, and nothing is printed; or the work ends as it may not, and then nothing more is printed; or it ends as it
+-- may, a stream fails, and the writer and its buffer have what they had after the work, then a beginning of the last line.
+abbrev pub Unserved : {W : Type 0} → (W → Option (List ℕ)) → Work W → List (String Global) → BufWriter W Global → BufWriter W Global → Fault → Type 0
+Unserved {W} contents prints arguments old new fault =
+    (Requested (drop 1 arguments) (Err fault) × (new ≡ old))
+    ⊎ ((Worked prints arguments (Err fault) old new × (Ended (Err fault) → ⊥))
+    ⊎ ((fault ≡ Stream) × ((done : Result (Unit {0}) Fault) × (between : BufWriter W Global) × Ended done × Worked prints arguments done old between
+    × Begins (writer_contents contents between) (writer_contents contents new) (last_text done))))
 
--- work was done for some arguments, and some writer became another by it
+-- work was done for some arguments with a buffer that was empty at first
 abbrev pub Performed : {W : Type 0} → (W → Option (List ℕ)) → Work W → Type 0
-Performed {W} contents prints = (arguments : List (String Global)) × (to : W) × (sent : W) × Served contents prints arguments to sent
+Performed {W} contents prints =
+    (arguments : List (String Global)) × (old : BufWriter W Global) × (new : BufWriter W Global) × (writer_buffer old ≡ []) × Served contents prints arguments old new
+
+-- Why it was not: memory lacks for the arguments or the buffer, the arguments cannot be read, or some arguments are not served.
+abbrev pub Unperformed : {W : Type 0} → (W → Option (List ℕ)) → Work W → Fault → Type 0
+Unperformed {W} contents prints fault =
+    (fault ≡ Memory) ⊎ ((fault ≡ Arguments)
+    ⊎ ((arguments : List (String Global)) × (old : BufWriter W Global) × (new : BufWriter W Global) × (writer_buffer old ≡ []) × Unserved contents prints arguments old new fault))
+
+-- it was not, for some reason
+abbrev pub Stopped : {W : Type 0} → (W → Option (List ℕ)) → Work W → Type 0
+Stopped contents prints = (fault : Fault) × Unperformed contents prints fault

@@ -1,11 +1,10 @@
 //! Why a program stops.
 ghost use Rattle.std.specs.Prelude.{◌≡◌};
-ghost use Rattle.console.specs.declared.fault.Fault.TheVariants.{Memory, Stream, Arguments, Filter};
+ghost use Rattle.console.specs.declared.fault.Fault.TheVariants.{Memory, Arguments, Filter};
 
 use figures::FigureFault;
 use filter::FilterFault;
 use std::alloc::{AllocError, AllocFailed};
-use std::io;
 
 /// Why a program stops.
 #[derive(Debug, Drop)]
@@ -33,14 +32,6 @@ impl<T: Drop> From<AllocFailed<T>> for Fault {
 
     fn from(_e: AllocFailed<T>) -> Fault {
         Fault::Memory
-    }
-}
-
-impl From<io::Error> for Fault {
-    ghost from_gives = { λ _ r. r ≡ Stream };
-
-    fn from(_e: io::Error) -> Fault {
-        Fault::Stream
     }
 }
 

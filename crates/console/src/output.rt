@@ -43,7 +43,8 @@ pub fn send<W: Write>(out: &mut W, text: &[u8]) -> Result<(), Fault>
 
 /// Writes the line of a refusal. Nothing is allocated for it.
 pub fn send_refusal<W: Write>(out: &mut W, fault: FilterFault) -> Result<(), Fault>
-    ensures { Sent (W.contents out.old) (W.contents out.new) (refused_text fault ++ 10 ∷ []) result }
+    ensures { Sent (W.contents out.old) (W.contents out.new) (refused_text fault ++ 10 ∷ [])
+        result }
 {
     let mut digits = Buffer::new();
     send(out, b"refused ")?;

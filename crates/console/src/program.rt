@@ -1,15 +1,13 @@
 //! How a program runs and ends.
-ghost use Rattle.std.specs.Prelude.{◌≡◌, ◌⊎◌, drop, MatchResult, IfOk, IfErr, OnOk, Err, Some};
+ghost use Rattle.std.specs.Prelude.{◌≡◌, ◌≢◌, ◌⊎◌, drop, MatchResult, Some};
 ghost use Rattle.std.specs.IoError.{error_kind};
-ghost use Rattle.std.specs.Io.Buffered.{writer_contents};
-ghost use Rattle.std.specs.Io.KnownBytes.{Appends};
-ghost use Rattle.console.specs.declared.fault.Fault.TheVariants.{Memory, Stream, Arguments};
+ghost use Rattle.console.specs.declared.fault.Fault.TheVariants.{Memory, Arguments};
 ghost use Rattle.console.specs.Texts.{refused_text, stop_text};
-ghost use Rattle.console.specs.Endings.{last_text, Ended, Served, Unserved, Performed};
+ghost use Rattle.console.specs.Endings.{Concluded, Served, Unserved, Performed, Unperformed, Stopped};
 
 use crate::fault::Fault;
+use crate::output::{buffered, send_refusal};
 use crate::request::Request;
-use crate::text::read_fault;
 use filter::FilterFault;
 use std::io::{BufWriter, ErrorKind, Stdout, Write};
 use std::process::ExitCode;
@@ -59,14 +57,15 @@ impl fmt::Display for Stop<'_> {
     }
 }
 
-// Why the arguments cannot be read: one that is no text is none that a program takes.
+// Why the arguments cannot be read: memory lacks, or one is no text, and then it is none that a program takes.
 fn arguments_fault(error: io::Error) -> Fault
-    ensures text { error_kind error ≡ ErrorKind.InvalidData → result ≡ Arguments }
-    ensures either { (result ≡ Arguments) ⊎ ((result ≡ Memory) ⊎ (result ≡ Stream)) }
+    ensures memory { error_kind error ≡ ErrorKind.OutOfMemory → result ≡ Memory }
+    ensures text { error_kind error ≢ ErrorKind.OutOfMemory → result ≡ Arguments }
+    ensures either { (result ≡ Memory) ⊎ (result ≡ Arguments) }
 {
     match error.kind() {
-        ErrorKind::InvalidData => Fault::Arguments,
-        _ => read_fault(error),
+        ErrorKind::OutOfMemory => Fault::Memory,
+        _ => Fault::Arguments,
     }
 }
 
@@ -80,33 +79,31 @@ fn words_of(arguments: &[String]) -> &[String]
     }
 }
 
-/// Ends what a program prints: a refusal is its last line. The writer is handed back with all of it.
-fn conclude<W: Write + Drop>(mut out: BufWriter<W>, done: Result<(), Fault>) -> Result<W, Fault>
-    ensures sent { IfOk result (λ sent. Appends (writer_contents W.contents out) (W.contents sent) (last_text done)) }
-    ensures ended { OnOk result (Ended done) }
-    ensures stopped { IfErr result (λ fault. (fault ≡ Stream) ⊎ ((done ≡ Err fault) × (Ended done → ⊥))) }
+/// Ends what a program prints: a refusal is its last line, and nothing is left in the buffer.
+// free: what a buffer that is dropped still writes. A drop has no contract, so of a program that stops it is said what the writer and its buffer had.
+fn conclude<W: Write + Drop>(out: &mut BufWriter<W>, done: Result<(), Fault>) -> Result<(), Fault>
+    ensures { Concluded W.contents done out.old out.new result }
 {
     match done {
         Ok(()) => {}
-        Err(Fault::Filter(fault)) => writeln!(out, "{}", Refused(fault))?,
+        Err(Fault::Filter(fault)) => send_refusal(out, fault)?,
         Err(fault) => return Err(fault),
     }
-    out.flush()?;
-    let (sent, _) = out.into_parts();
-    Ok(sent)
+    out.flush().map_err(|_| Fault::Stream)
 }
 
-/// Prints to a writer what the arguments ask for, and hands the writer back.
+/// Prints to a buffer what the arguments ask for, and leaves nothing in it.
 fn serve<
     W: Write + Drop,
     F: FnOnce(&HostRuntime, &mut BufWriter<W>, Option<Request>) -> Result<(), Fault>,
->(rt: &HostRuntime, arguments: &[String], to: W, print: F) -> Result<W, Fault>
+>(rt: &HostRuntime, arguments: &[String], out: &mut BufWriter<W>, print: F) -> Result<(), Fault>
     requires { F.IsAlwaysCallable print }
-    ensures { MatchResult result (Served W.contents (F.post print rt.entry) arguments.now to) (Unserved (F.post print rt.entry) arguments.now) }
+    ensures { MatchResult result
+        (λ _. Served W.contents (F.post print rt.entry) arguments.now out.old out.new)
+        (Unserved W.contents (F.post print rt.entry) arguments.now out.old out.new) }
 {
     let request = Request::of(words_of(arguments))?;
-    let mut out = BufWriter::new(rt.alloc(), to)?;
-    let done = print(rt, &mut out, request);
+    let done = print(rt, out, request);
     conclude(out, done)
 }
 
@@ -116,11 +113,13 @@ impl Program {
         F: FnOnce(&HostRuntime, &mut BufWriter<Stdout>, Option<Request>) -> Result<(), Fault>,
     >(&self, rt: &HostRuntime, print: F) -> Result<(), Fault>
         requires { F.IsAlwaysCallable print }
-        ensures { OnOk result (Performed ⟦<Stdout as Write>⟧.contents (F.post print rt.entry)) }
+        ensures { MatchResult result
+            (λ _. Performed ⟦<Stdout as Write>⟧.contents (F.post print rt.entry))
+            (Unperformed ⟦<Stdout as Write>⟧.contents (F.post print rt.entry)) }
     {
         let arguments: Vec<String> = env::args(rt).map_err(arguments_fault)?.collect(rt.alloc())?;
-        serve(rt, arguments.as_slice(), rt.stdout(), print)?;
-        Ok(())
+        let mut out = buffered(rt.alloc(), rt.stdout())?;
+        serve(rt, arguments.as_slice(), &mut out, print)
     }
 
     /// The status that the program ends with. Where it stops, it says why on standard error.
@@ -144,7 +143,10 @@ impl Program {
         F: FnOnce(&HostRuntime, &mut BufWriter<Stdout>, Option<Request>) -> Result<(), Fault>,
     >(&self, rt: &HostRuntime, print: F) -> ExitCode
         requires { F.IsAlwaysCallable print }
-        ensures { ((result ≡ ExitCode.SUCCESS) × Performed ⟦<Stdout as Write>⟧.contents (F.post print rt.entry)) ⊎ (result ≡ ExitCode.FAILURE) }
+        ensures { ((result ≡ ExitCode.SUCCESS)
+            × Performed ⟦<Stdout as Write>⟧.contents (F.post print rt.entry))
+            ⊎ ((result ≡ ExitCode.FAILURE)
+            × Stopped ⟦<Stdout as Write>⟧.contents (F.post print rt.entry)) }
     {
         self.status(rt, self.perform(rt, print))
     }

@@ -1,3 +1,4 @@
 pub mod Spelling
 pub mod Beginning
 pub mod Growing
+pub mod Stopping

@@ -6,7 +6,7 @@ use Rattle.blocks.specs.declared.Quotient.{Quotient}
 use Rattle.filter.specs.declared.fault.FilterFault.{FilterFault}
 use Rattle.console.specs.Texts.{blocks_text, refused_text}
 use Rattle.filterlog.specs.declared.answers.Answer.{Answer}
-use Rattle.filterlog.specs.declared.answers.Answer.TheVariants.{Done, Refused, Found, Held, Entry, Words, List as Listed}
+use Rattle.filterlog.specs.declared.answers.Answer.TheVariants.{Refused, Found, Held, Entry, Words, List as Listed}
 
 -- a line with its end
 abbrev pub line_text : List ℕ → List ℕ
@@ -38,7 +38,6 @@ has_text (Err e) = line_text (refused_text e)
 
 -- an answer, each line of it with its end
 abbrev pub answer_text : Answer → List ℕ
-answer_text Done = line_text (codes "ok")
 answer_text (Refused e) = line_text (refused_text e)
 answer_text (Found there) = found_text there
 answer_text (Held n) = line_text (decimal n)

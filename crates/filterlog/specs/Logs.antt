@@ -1,5 +1,5 @@
 -- What is printed in answer to a whole log.
-use Rattle.std.specs.Prelude.{◌≡◌, ℕ, ◌≤◌, min, List, [], IfSome, Some, None, Ok, Err, Option, Result}
+use Rattle.std.specs.Prelude.{◌≡◌, ℕ, ◌≤◌, ◌⊎◌, min, List, [], ◌++◌, IfSome, Some, None, Ok, Err, Option, Result}
 use Rattle.std.specs.Io.KnownBytes.{Appends}
 use Rattle.figures.specs.Lines.{lines_of}
 use Rattle.filter.specs.Filters.{fingerprints}
@@ -7,6 +7,7 @@ use Rattle.filter.specs.declared.fault.FilterFault.TheVariants.{BadPlan}
 use Rattle.filter.specs.declared.filter.Filter.{Filter}
 use Rattle.console.specs.declared.fault.Fault.{Fault}
 use Rattle.console.specs.declared.fault.Fault.TheVariants.{Memory, Stream, Arguments, Filter as Refuses}
+use Rattle.console.specs.Sending.{Begins}
 use Rattle.console.specs.declared.request.Request.{Request}
 use Rattle.filterlog.specs.Runs.{LinesRan}
 
@@ -29,12 +30,30 @@ pub record Printed (request : Request) (left o p : Option (List ℕ)) : Type 0 w
   pub ran : LinesRan (lines_of log) before after text
   pub said : Appends o p text
 
--- The same, or why it is not printed to its end: no request, a plan out of range, want of memory, or a stream that fails.
-abbrev pub LogDone : Option Request → Option (List ℕ) → Option (List ℕ) → Option (List ℕ) → Result (Unit {0}) Fault → Type 0
-LogDone (Some request) left o p (Ok done) = Printed request left o p
-LogDone (Some request) left o p (Err (Refuses e)) = (e ≡ BadPlan) × (((6 ≤ request.q) × (request.q ≤ 20) × (1 ≤ request.r) × (request.r ≤ 32)) → ⊥) × (p ≡ o)
-LogDone (Some request) left o p (Err Arguments) = ⊥
-LogDone (Some request) left o p (Err Memory) = Unit {0}
-LogDone (Some request) left o p (Err Stream) = Unit {0}
-LogDone None left o p (Ok done) = ⊥
-LogDone None left o p (Err e) = (e ≡ Arguments) × (p ≡ o)
+-- The first lines of a log answer a text, in order, by the filter that a request asks for. The log is all that the reader had left, where that is known.
+pub record Started (request : Request) (left : Option (List ℕ)) (text : List ℕ) : Type 0 where
+  pub log : List ℕ
+  pub read : IfSome left (λ bytes. log ≡ bytes)
+  pub answered : List (List ℕ)
+  pub unanswered : List (List ℕ)
+  pub lines : lines_of log ≡ answered ++ unanswered
+  pub before : Filter
+  pub after : Filter
+  pub begun : Begun request before
+  pub ran : LinesRan answered before after text
+
+-- q and r of a request are in the range of a plan's
+abbrev pub InRange : Request → Type 0
+InRange request = (6 ≤ request.q) × (request.q ≤ 20) × (1 ≤ request.r) × (request.r ≤ 32)
+
+-- What is printed by a request and a log, where left and rest are what there was to read before and after; or why that is not printed to its end. Where memory
+-- lacks, the answers to the first lines are printed whole, or nothing is; where a stream fails, a beginning of the answers to the first lines, or nothing. With a plan
+-- that is out of range, or without a request, nothing is printed and the log is not read.
+abbrev pub LogDone : Option Request → Option (List ℕ) → Option (List ℕ) → Option (List ℕ) → Option (List ℕ) → Result (Unit {0}) Fault → Type 0
+LogDone (Some request) left rest o p (Ok done) = Printed request left o p
+LogDone (Some request) left rest o p (Err (Refuses e)) = (e ≡ BadPlan) × (InRange request → ⊥) × (p ≡ o) × (rest ≡ left)
+LogDone (Some request) left rest o p (Err Arguments) = ⊥
+LogDone (Some request) left rest o p (Err Memory) = InRange request × ((p ≡ o) ⊎ ((text : List ℕ) × Started request left text × Appends o p text))
+LogDone (Some request) left rest o p (Err Stream) = InRange request × ((p ≡ o) ⊎ ((text : List ℕ) × Started request left text × Begins o p text))
+LogDone None left rest o p (Ok done) = ⊥
+LogDone None left rest o p (Err e) = (e ≡ Arguments) × (p ≡ o) × (rest ≡ left)

@@ -8,6 +8,7 @@ use Rattle.filter.specs.Filters.{SameFilter, fingerprints, Added, Taken, Answere
 use Rattle.filter.specs.declared.fault.FilterFault.{FilterFault}
 use Rattle.filter.specs.declared.filter.Filter.{Filter}
 use Rattle.console.specs.Texts.{blocks_text}
+use Rattle.console.specs.Sending.{Begins}
 use Rattle.console.specs.declared.fault.Fault.{Fault}
 use Rattle.console.specs.declared.fault.Fault.TheVariants.{Memory, Stream, Arguments, Filter as Refuses}
 use Rattle.filterlog.specs.Answers.{line_text, entry_text, list_text, edit_text, has_text}
@@ -36,12 +37,22 @@ Ran None f g text = (g ≡ f) × (text ≡ line_text (codes "unreadable"))
 abbrev pub LineRan : List ℕ → Filter → Filter → List ℕ → Type 0
 LineRan line f g text = (c : Option Command) × Said line c × Ran c f g text
 
--- The same, where o and p are what was printed before and after; or why the program ends there: want of memory, with all as it was, or a stream that fails.
+-- What is printed in answer to a question about filter f, where o and p are what was printed before and after; or why it is not: memory lacks, and nothing of the
+-- answer is printed, or a stream fails, and a beginning of it is.
+abbrev pub QuestionDone : Filter → Question → Option (List ℕ) → Option (List ℕ) → Result (Unit {0}) Fault → Type 0
+QuestionDone f q o p (Ok done) = (text : List ℕ) × Told f q text × Appends o p text
+QuestionDone f q o p (Err Memory) = p ≡ o
+QuestionDone f q o p (Err Stream) = (text : List ℕ) × Told f q text × Begins o p text
+QuestionDone f q o p (Err Arguments) = ⊥
+QuestionDone f q o p (Err (Refuses e)) = ⊥
+
+-- What a line of the log makes of filter f, which is g, and what is printed of it, where o and p are what was printed before and after; or why the program ends
+-- there: memory lacks for the answer to a question, with all as it was, or a stream fails, and what is printed of the line is a beginning of its answer.
 -- A refusal is printed, and ends nothing.
 abbrev pub LineDone : List ℕ → Filter → Filter → Option (List ℕ) → Option (List ℕ) → Result (Unit {0}) Fault → Type 0
 LineDone line f g o p (Ok done) = (text : List ℕ) × LineRan line f g text × Appends o p text
-LineDone line f g o p (Err Memory) = (g ≡ f) × (p ≡ o)
-LineDone line f g o p (Err Stream) = Unit {0}
+LineDone line f g o p (Err Memory) = (q : Question) × Said line (Some (Ask q)) × (g ≡ f) × (p ≡ o)
+LineDone line f g o p (Err Stream) = (text : List ℕ) × LineRan line f g text × Begins o p text
 LineDone line f g o p (Err Arguments) = ⊥
 LineDone line f g o p (Err (Refuses e)) = ⊥
 

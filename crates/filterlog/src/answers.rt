@@ -1,8 +1,8 @@
-//! What commands answer.
+//! What questions are answered.
 ghost use Rattle.std.specs.Prelude.{◌≡◌, [], ◌∷◌, IfOk, Some};
 ghost use Rattle.std.specs.Fmt.{decimal};
 ghost use Rattle.std.specs.List.{join_by};
-ghost use Rattle.filterlog.specs.Answers.{has_text, edit_text, answer_text};
+ghost use Rattle.filterlog.specs.Answers.{has_text, answer_text};
 ghost use Rattle.filterlog.specs.Runs.{Told};
 
 use crate::commands::Question;
@@ -31,11 +31,9 @@ impl fmt::Display for Spaced<'_> {
     }
 }
 
-/// What a line of the log is answered.
+/// What a question is answered.
 #[derive(Drop)]
 pub(crate) enum Answer<'a> {
-    /// The edit is done.
-    Done,
     /// The filter refuses.
     Refused(FilterFault),
     /// Whether an entry has the fingerprint.
@@ -55,7 +53,6 @@ impl fmt::Display for Answer<'_> {
 
     fn fmt<W: fmt::Write>(&self, f: &mut fmt::Formatter<W>) -> fmt::Result {
         match self {
-            Answer::Done => writeln!(f, "ok"),
             Answer::Refused(fault) => writeln!(f, "{}", Refused(*fault)),
             Answer::Found(true) => writeln!(f, "yes"),
             Answer::Found(false) => writeln!(f, "no"),
@@ -71,16 +68,6 @@ impl fmt::Display for Answer<'_> {
 }
 
 impl<'a> Answer<'a> {
-    /// The answer to an edit.
-    pub(crate) fn done(edit: Result<(), FilterFault>) -> Answer<'a>
-        ensures { answer_text result ≡ edit_text edit }
-    {
-        match edit {
-            Ok(()) => Answer::Done,
-            Err(fault) => Answer::Refused(fault),
-        }
-    }
-
     /// The answer to whether an entry has a fingerprint.
     fn found(there: Result<bool, FilterFault>) -> Answer<'a>
         ensures { answer_text result ≡ has_text there }

@@ -3,21 +3,24 @@
 
 ghost use Rattle.std.specs.Prelude.{None, OnOk};
 ghost use Rattle.std.specs.Io.KnownBytes.{IsAtEnd};
-ghost use Rattle.filterlog.specs.Runs.{LineDone};
+ghost use Rattle.console.specs.Sending.{Sent};
+ghost use Rattle.filterlog.specs.Answers.{edit_text};
+ghost use Rattle.filterlog.specs.Runs.{QuestionDone, LineDone};
 ghost use Rattle.filterlog.specs.Logs.{LogDone};
 
 mod answers;
 mod commands;
 
 use answers::Answer;
-use commands::{Command, command_of};
+use commands::{Command, Question, command_of};
 use console::fault::Fault;
+use console::output::{send, send_refusal};
 use console::program::Program;
 use console::request::Request;
 use console::storage::blank;
 use console::text::read_text;
 use figures::lines::Lines;
-use filter::Filter;
+use filter::{Filter, FilterFault};
 use std::alloc::Global;
 use std::io::{Read, Write};
 use std::process::ExitCode;
@@ -28,6 +31,30 @@ const FILTERLOG: Program = Program {
     arguments: "q r blocks",
 };
 
+/// Prints what an edit did. Nothing is allocated for it, so an edit that is done is answered or the stream fails.
+fn print_edit<W: Write>(out: &mut W, edit: Result<(), FilterFault>) -> Result<(), Fault>
+    ensures { Sent (W.contents out.old) (W.contents out.new) (edit_text edit) result }
+{
+    match edit {
+        Ok(()) => send(out, b"ok\n"),
+        Err(fault) => send_refusal(out, fault),
+    }
+}
+
+/// Prints what a question is answered, once the whole answer is put together.
+fn print_told<W: Write>(
+    heap: Global,
+    out: &mut W,
+    filter: &Filter<'_>,
+    question: Question,
+) -> Result<(), Fault>
+    ensures { QuestionDone filter.now question (W.contents out.old) (W.contents out.new) result }
+{
+    let answer = Answer::of(heap, filter, question)?;
+    let text = format!(in heap; "{answer}")?;
+    send(out, text.as_bytes())
+}
+
 /// Runs the command that a line is, and prints what it answers.
 fn print_answer<W: Write>(
     heap: Global,
@@ -35,15 +62,14 @@ fn print_answer<W: Write>(
     filter: &mut Filter<'_>,
     line: &[u8],
 ) -> Result<(), Fault>
-    ensures { LineDone line.now filter.old filter.new (W.contents out.old) (W.contents out.new) result }
+    ensures { LineDone line.now filter.old filter.new (W.contents out.old) (W.contents out.new)
+        result }
 {
     match command_of(line) {
-        Some(Command::Add(n)) => Ok(write!(out, "{}", Answer::done(filter.add(n)))?),
-        Some(Command::Take(n)) => Ok(write!(out, "{}", Answer::done(filter.take(n)))?),
-        Some(Command::Ask(question)) => {
-            Ok(write!(out, "{}", Answer::of(heap, filter, question)?)?)
-        }
-        None => Ok(writeln!(out, "unreadable")?),
+        Some(Command::Add(n)) => print_edit(out, filter.add(n)),
+        Some(Command::Take(n)) => print_edit(out, filter.take(n)),
+        Some(Command::Ask(question)) => print_told(heap, out, filter, question),
+        None => send(out, b"unreadable\n"),
     }
 }
 
@@ -54,7 +80,8 @@ fn print_log<R: Read, W: Write>(
     out: &mut W,
     request: Option<Request>,
 ) -> Result<(), Fault>
-    ensures done { LogDone request (R.remaining log.old) (W.contents out.old) (W.contents out.new) result }
+    ensures done { LogDone request (R.remaining log.old) (R.remaining log.new)
+        (W.contents out.old) (W.contents out.new) result }
     ensures all { OnOk result (IsAtEnd (R.remaining log.new)) }
 {
     let request = request.ok_or(Fault::Arguments)?;
@@ -74,7 +101,7 @@ fn print_answers<W: Write>(
     out: &mut W,
     request: Option<Request>,
 ) -> Result<(), Fault>
-    ensures { LogDone request None (W.contents out.old) (W.contents out.new) result }
+    ensures { LogDone request None None (W.contents out.old) (W.contents out.new) result }
 {
     print_log(rt.alloc(), &mut rt.stdin(), out, request)
 }
