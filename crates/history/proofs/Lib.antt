@@ -5,3 +5,4 @@ pub mod Rolls
 pub mod Answers
 pub mod Histories
 pub mod Laws
+pub mod Ones

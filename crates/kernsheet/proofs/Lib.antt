@@ -1,4 +1,4 @@
 pub mod Sofar
+pub mod Beginning
+pub mod Ones
 pub mod Streams
-pub mod Books
-pub mod Histories

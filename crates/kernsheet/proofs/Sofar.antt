@@ -1,48 +1,108 @@
 -- Lines that are done one by one.
-use Rattle.std.proofs.Common.{◌≡◌, ◌==◌, cond, true, false, Bool, ℕ, suc, ◌+◌, ◌≤◌, List, [], ◌∷◌, ◌++◌, length, ℤ, Option, Result, refl, append_assoc, append-nil, arith}
-use Rattle.std.specs.Io.KnownBytes.{Appends}
-use Rattle.std.proofs.KnownBytes.{Appends-nil, Appends-trans}
+use Rattle.std.proofs.Common.{◌≡◌, ◌==◌, cond, true, false, Bool, ℕ, suc, ◌+◌, ◌≤◌, List, [], ◌∷◌, ◌++◌, length, ℤ, Ok, Err, Result, refl, sym, subst, append_assoc, append-nil, arith}
+use Rattle.kinds.specs.Bytes.{pair_bytes, sequence_bytes}
 use Rattle.kinds.specs.declared.kern.Pair.{Pair}
 use Rattle.kinds.specs.declared.sequence.Sequence.{Sequence}
 use Rattle.figures.specs.Lines.{grown, lines_of}
-use Rattle.book.specs.Standings.{Standing}
+use Rattle.forms.specs.declared.command.Command.{Command}
+use Rattle.forms.specs.declared.command.Command.TheVariants as command
+use Rattle.forms.specs.declared.fault.LineFault.{LineFault}
+use Rattle.forms.specs.Meaning.{Meant}
+use Rattle.history.specs.Beginnings.{nothing}
+use Rattle.history.specs.Rules.{Answer}
+use Rattle.history.specs.History.{History, Answered}
+use Rattle.history.specs.declared.operation.Operation.{Operation}
+use Rattle.book.specs.Reached.{State, Reached}
 use Rattle.answers.specs.declared.done.Done.{Done}
 use Rattle.answers.specs.declared.fault.Refusal.{Refusal}
 use Rattle.answers.specs.Texts.{answer_line}
-use Rattle.kernsheet.specs.Lines.{DoesLine, LinesDone, Writes}
+use Rattle.sheet.specs.Doing.{Whole, state_at, Outcome, LineDone}
+use Rattle.kernsheet.specs.Fresh.{IsFresh, terms}
+use Rattle.kernsheet.specs.Sheets.{LineAnswered, LinesAnswered}
 
--- The lines done so far took the books from k and l to m and n, and wrote a text, where the others are left and the next one has that number: what the others
--- add completes the answer to all.
-pub record Sofar {B C : Type 0} (k m : Standing Pair ℤ B) (l n : Standing Sequence ℕ C) (all left : List (List ℕ)) (number : ℕ) (o p : Option (List ℕ)) : Type 0 where
-  pub text : List ℕ
-  pub written : Appends o p text
-  pub completes : (k' : Standing Pair ℤ B) (l' : Standing Sequence ℕ C) (rest : List ℕ) → LinesDone m k' n l' number left rest → LinesDone k k' l l' 1 all (text ++ rest)
+-- the last answer in the history of a book that held nothing is the one that the rules give
+last_answer : {K V : Type 0} (bytes : K → List ℕ) (s now : State K V) (h : History K V) (o : Operation K V) (a : Answer V) → IsFresh bytes s
+    → Reached bytes s now (h ++ (o, a) ∷ []) → Answered (terms bytes s) nothing h o a
+last_answer bytes s now h o a fresh r = subst (λ opening. Answered (terms bytes s) opening h o a) fresh.holds (r.law.answers h [] o a refl)
 
-module _ {B C : Type 0} (k m : Standing Pair ℤ B) (l n : Standing Sequence ℕ C) (all left : List (List ℕ)) (number : ℕ) (o p : Option (List ℕ)) where
-  pub sofar_none : k ≡ m → l ≡ n → all ≡ left → number ≡ 1 → o ≡ p → Sofar k m l n all left number o p
-  sofar_none a b c d e = record {
-    text = [];
-    written = rw e (Appends-nil p);
-    completes = λ k' l' rest h. rw (a, b, c) (rw d at h);
+module _ (s : State Pair ℤ) (t : State Sequence ℕ) where
+  -- The two books began as s and t, and are k and l now. The lines done so far were answered by the text; what answers the others, of which the next has that
+  -- number, completes it to the answer to all.
+  pub record Sofar (k : State Pair ℤ) (l : State Sequence ℕ) (all left : List (List ℕ)) (number : ℕ) (text : List ℕ) : Type 0 where
+    pub kerns : History Pair ℤ
+    pub ligatures : History Sequence ℕ
+    pub kern : Reached pair_bytes s k kerns
+    pub ligature : Reached sequence_bytes t l ligatures
+    pub completes : (rest : List ℕ) → LinesAnswered (terms pair_bytes s) (terms sequence_bytes t) kerns ligatures number left rest
+        → LinesAnswered (terms pair_bytes s) (terms sequence_bytes t) [] [] 1 all (text ++ rest)
+
+  -- a line is answered, and these are the histories after it
+  record Goes (k : State Pair ℤ) (l : State Sequence ℕ) (h : History Pair ℤ) (j : History Sequence ℕ) (line : List ℕ) (reply : Result Done Refusal) : Type 0 where
+    kerns : History Pair ℤ
+    ligatures : History Sequence ℕ
+    answered : LineAnswered (terms pair_bytes s) (terms sequence_bytes t) h kerns j ligatures line reply
+    kern : Reached pair_bytes s k kerns
+    ligature : Reached sequence_bytes t l ligatures
+
+  module _ {B C X Y : Type 0} (k m : Whole Pair ℤ B X) (l n : Whole Sequence ℕ C Y) (h : History Pair ℤ) (j : History Sequence ℕ) (line : List ℕ) (reply : Result Done Refusal)
+      (fresh : IsFresh pair_bytes s) (new : IsFresh sequence_bytes t) (a : Reached pair_bytes s (state_at k) h) (b : Reached sequence_bytes t (state_at l) j) where
+    goes : (r : Result Command LineFault) → Meant line r → Outcome k m l n r reply → Goes (state_at m) (state_at n) h j line reply
+    goes (Ok (command.Kern o)) means (x, did, same, is) =
+        let r = did.law s h a in
+        record {
+          kerns = h ++ (o, x) ∷ [];
+          ligatures = j;
+          answered = (Ok (command.Kern o), means, (x, last_answer pair_bytes s (state_at m) h o x fresh r, refl, refl, is));
+          kern = r;
+          ligature = subst (λ (w : Whole Sequence ℕ C Y). Reached sequence_bytes t (state_at w) j) (sym same) b;
+        }
+    goes (Ok (command.Ligature o)) means (x, did, same, is) =
+        let r = did.law t j b in
+        record {
+          kerns = h;
+          ligatures = j ++ (o, x) ∷ [];
+          answered = (Ok (command.Ligature o), means, (x, last_answer sequence_bytes t (state_at n) j o x new r, refl, refl, is));
+          kern = subst (λ (w : Whole Pair ℤ B X). Reached pair_bytes s (state_at w) h) (sym same) a;
+          ligature = r;
+        }
+    goes (Err f) means (same, alike, is) = record {
+      kerns = h;
+      ligatures = j;
+      answered = (Err f, means, (refl, refl, is));
+      kern = subst (λ (w : Whole Pair ℤ B X). Reached pair_bytes s (state_at w) h) (sym same) a;
+      ligature = subst (λ (w : Whole Sequence ℕ C Y). Reached sequence_bytes t (state_at w) j) (sym alike) b;
+    }
+
+  pub sofar_none : (all left : List (List ℕ)) (number : ℕ) (text : List ℕ) → Reached pair_bytes s s [] → Reached sequence_bytes t t [] → all ≡ left → number ≡ 1 → text ≡ []
+      → Sofar s t all left number text
+  sofar_none all left number text a b c d e = record {
+    kerns = [];
+    ligatures = [];
+    kern = a;
+    ligature = b;
+    completes = λ rest h. rw (c, e) (rw d at h);
   }
 
-  pub sofar_more : (m' : Standing Pair ℤ B) (n' : Standing Sequence ℕ C) (line : List ℕ) (rest : List (List ℕ)) (reply : Result Done Refusal) (q : Option (List ℕ)) (bytes : List ℕ) (own next : ℕ)
-      → Sofar k m l n all left number o p → left ≡ line ∷ rest → DoesLine m m' n n' line reply → own ≡ number → bytes ≡ answer_line own reply → Appends p q bytes → next ≡ own + 1
-      → Sofar k m' l n' all rest next o q
-  unfolding LinesDone
-  sofar_more m' n' line rest reply q bytes own next s e d i b w x = record {
-    text = s.text ++ bytes;
-    written = Appends-trans o p q s.text bytes s.written w;
-    completes = λ k' l' more h. rw append_assoc (s.completes k' l' (bytes ++ more) (rw (e, b, ← i) (m', n', reply, more, d, rw x at h, refl)));
-  }
+  pub sofar_more : {B C X Y : Type 0} (k m : Whole Pair ℤ B X) (l n : Whole Sequence ℕ C Y) (all left : List (List ℕ)) (number : ℕ) (text : List ℕ)
+      (line : List ℕ) (rest : List (List ℕ)) (reply : Result Done Refusal) (bytes after : List ℕ) (own next : ℕ)
+      → IsFresh pair_bytes s → IsFresh sequence_bytes t → Sofar (state_at k) (state_at l) all left number text
+      → left ≡ line ∷ rest → LineDone k m l n line reply → own ≡ number → bytes ≡ answer_line own reply → after ≡ text ++ bytes → next ≡ own + 1
+      → Sofar (state_at m) (state_at n) all rest next after
+  unfolding LinesAnswered
+  sofar_more k m l n all left number text line rest reply bytes after own next fresh new c e d i b w x =
+      let g = goes k m l n c.kerns c.ligatures line reply fresh new c.kern c.ligature d.0 d.1 d.2 in
+      record {
+        kerns = g.kerns;
+        ligatures = g.ligatures;
+        kern = g.kern;
+        ligature = g.ligature;
+        completes = λ more h. rw (w, append_assoc) (c.completes (bytes ++ more) (rw (e, b, ← i) (g.kerns, g.ligatures, reply, more, g.answered, rw x at h, refl)));
+      }
 
-  pub sofar_all : Sofar k m l n all left number o p → left ≡ [] → Writes o p (LinesDone k m l n 1 all)
-  unfolding LinesDone
-  sofar_all s e = record {
-    text = s.text;
-    is_text = rw append-nil at (s.completes m n [] (rw e (refl, refl, refl)));
-    written = s.written;
-  }
+  pub sofar_all : (k : State Pair ℤ) (l : State Sequence ℕ) (all left : List (List ℕ)) (number : ℕ) (text : List ℕ) → Sofar k l all left number text → left ≡ []
+      → LinesAnswered (terms pair_bytes s) (terms sequence_bytes t) [] [] 1 all text
+  unfolding LinesAnswered
+  sofar_all k l all left number text c e = rw append-nil at (c.completes [] (rw e refl))
 
 grown_few : (c : ℕ) (ls : List (List ℕ)) → length (grown c ls) ≤ suc (length ls)
 grown_few c [] = omega arith

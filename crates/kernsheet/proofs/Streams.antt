@@ -1,27 +1,25 @@
 -- What is known of bytes that are read and written.
 use Rattle.std.proofs.lemmas.List.{take_all, length-take-le}
 use Rattle.std.proofs.lemmas.Bool.{cases_lt}
-use Rattle.std.proofs.Common.{◌≡◌, ℕ, ◌<◌, ◌≤◌, arith, length, inr, ⊎_elim, subst, List, [], take, Some, None, Ok, Err, Option, Result, IfSome, OnOk, option_map, refl, ap, subst₂, append-nil}
+use Rattle.std.proofs.Common.{◌≡◌, ℕ, ◌<◌, ◌≤◌, arith, length, inr, ⊎_elim, subst, subst₂, List, take, Some, None, Ok, Err, Option, Result, Vec, Global, IfOk, IfSome, option_map, refl}
 use Rattle.std.specs.Io.Take.{take_limit, take_inner, take_remaining}
 use Rattle.std.specs.declared.io.Take.{Take}
-use Rattle.std.specs.Io.KnownBytes.{append_known, Keeps}
-use Rattle.std.proofs.KnownBytes.{Appends-kept}
-use Rattle.kernsheet.specs.Lines.{Writes}
-use Rattle.kernsheet.specs.Sheets.{SheetAnswered, AnswersInput}
+use Rattle.console.specs.declared.fault.Fault.{Fault}
+use Rattle.console.specs.declared.fault.Fault.TheVariants.{Memory, Stream, Arguments, Filter}
+use Rattle.console.specs.Sending.{Sent}
+use Rattle.kernsheet.specs.Sheets.{SheetAnswered, OneAnswer, InputAnswered, Replied}
+use Rattle.kernsheet.proofs.Ones.{one_answer}
 
 first : (n : ℕ) (bs : List ℕ) (o : Option (List ℕ)) → IfSome (option_map (take n) o) (λ xs. bs ≡ xs) → IfSome o (λ bytes. bs ≡ take n bytes)
 first n bs None h = tt
 first n bs (Some bytes) h = h
 
 -- the front of the bytes that an input had left
-pub front_known : {R : Type 0} (remaining : R → Option (List ℕ)) (t : Take R) (input : R) (limit : ℕ) (bs : List ℕ) → take_limit t ≡ limit → take_inner t ≡ input
-    → IfSome (take_remaining remaining t) (λ xs. bs ≡ xs) → IfSome (remaining input) (λ bytes. bs ≡ take limit bytes)
-front_known remaining t input limit bs l i h =
-    first limit bs (remaining input) (subst₂ (λ n x. IfSome (option_map (take n) (remaining x)) (λ xs. bs ≡ xs)) l i h)
-
-append_none : (o : Option (List ℕ)) → append_known o [] ≡ o
-append_none None = refl
-append_none (Some bytes) = ap Some (append-nil bytes)
+pub front_known : {R E : Type 0} (remaining : R → Option (List ℕ)) (t : Take R) (input : R) (limit : ℕ) (r : Result (Vec ℕ Global) E) → take_limit t ≡ limit → take_inner t ≡ input
+    → IfOk r (λ v. IfSome (take_remaining remaining t) (λ xs. v.items ≡ xs)) → IfOk r (λ v. IfSome (remaining input) (λ bytes. v.items ≡ take limit bytes))
+front_known remaining t input limit (Err e) l i h = tt
+front_known remaining t input limit (Ok v) l i h =
+    first limit v.items (remaining input) (subst₂ (λ n x. IfSome (option_map (take n) (remaining x)) (λ xs. v.items ≡ xs)) l i h)
 
 -- What answers the front of a sheet answers the sheet: the front is too long where something is cut off.
 front_answered : (bytes text : List ℕ) → SheetAnswered (take 65536 bytes) text → SheetAnswered bytes text
@@ -33,21 +31,16 @@ front_answered bytes text h =
     ⊎_elim (λ (few, by_lines). absurd (omega (arith, full, few))) (λ (long, is). inr (omega arith, is)) h)
     (cases_lt (length bytes) 65537)
 
-answers_input : (left o p : Option (List ℕ)) (sheet : List ℕ) → IfSome left (λ bytes. sheet ≡ take 65536 bytes) → Writes o p (SheetAnswered sheet) → AnswersInput left o p
-answers_input None o p sheet is w = record { sheet = sheet; whole = tt; answered = w }
-answers_input (Some bytes) o p sheet is w = record {
-  sheet = bytes;
-  whole = refl;
-  answered = record { text = w.text; is_text = front_answered bytes w.text (subst (λ l. SheetAnswered l w.text) is w.is_text); written = w.written };
-}
+input_answered : (left : Option (List ℕ)) (front text : List ℕ) → IfSome left (λ bytes. front ≡ take 65536 bytes) → OneAnswer front text → InputAnswered left text
+input_answered None front text is a = record { sheet = front; whole = tt; answer = a }
+input_answered (Some bytes) front text is a =
+    record { sheet = bytes; whole = refl; answer = one_answer bytes text (front_answered bytes text (subst (λ l. SheetAnswered l text) is a.0)) }
 
--- A sheet that was read is answered in a buffered writer, and this is flushed: all that it held is with the inner one.
-pub replied : {E : Type 0} (r : Result (Unit {0}) E) (left o p held : Option (List ℕ)) (buffer sheet : List ℕ)
-    → IfSome left (λ bytes. sheet ≡ take 65536 bytes) → Writes o p (SheetAnswered sheet) → Keeps p (append_known held buffer) → OnOk r (buffer ≡ [])
-    → OnOk r (AnswersInput left o held)
-replied (Err e) left o p held buffer sheet is w k empty = tt
-replied (Ok done) left o p held buffer sheet is w k empty = answers_input left o held sheet is (record {
-  text = w.text;
-  is_text = w.is_text;
-  written = rw append_none at (rw empty at (Appends-kept o p (append_known held buffer) w.text w.written k));
-})
+-- the text that answers the front of an input is sent
+pub replied : {W : Type 0} (contents : W → Option (List ℕ)) (left : Option (List ℕ)) (old new : W) (front text : List ℕ) (r : Result (Unit {0}) Fault)
+    → IfSome left (λ bytes. front ≡ take 65536 bytes) → OneAnswer front text → Sent (contents old) (contents new) text r → Replied contents left old new r
+replied contents left old new front text (Ok done) is a s = (text, input_answered left front text is a, s)
+replied contents left old new front text (Err Memory) is a (stream, s) = cc
+replied contents left old new front text (Err Stream) is a (stream, s) = inr (text, input_answered left front text is a, s)
+replied contents left old new front text (Err Arguments) is a (stream, s) = cc
+replied contents left old new front text (Err (Filter f)) is a (stream, s) = cc

@@ -1,5 +1,6 @@
 -- What a sheet is answered by two books that begin empty. Nothing of the books stands here but what was asked of them and what they answered.
 use Rattle.std.specs.Prelude.{◌≡◌, ℕ, ◌+◌, ◌<◌, ◌≤◌, ◌⊎◌, List, [], ◌∷◌, ◌++◌, length, ℤ, Ok, Err, Option, Result, IfSome}
+use Rattle.std.specs.Io.KnownBytes.{Appends}
 use Rattle.kinds.specs.Bytes.{pair_bytes, sequence_bytes}
 use Rattle.kinds.specs.Hashes.{fibonacci, fnv}
 use Rattle.kinds.specs.declared.kern.Pair.{Pair}
@@ -19,7 +20,9 @@ use Rattle.answers.specs.declared.fault.Refusal.{Refusal}
 use Rattle.answers.specs.declared.fault.Refusal.TheVariants.{Line, LongSheet}
 use Rattle.answers.specs.Texts.{answer_line}
 use Rattle.sheet.specs.Doing.{reply_of}
-use Rattle.kernsheet.specs.Lines.{Writes}
+use Rattle.console.specs.declared.fault.Fault.{Fault}
+use Rattle.console.specs.declared.fault.Fault.TheVariants.{Memory, Stream}
+use Rattle.console.specs.Sending.{Begins}
 
 -- What becomes of a line that means this, where k and l are what was asked of the kerning book and of the ligature book before it, with their answers, and k'
 -- and l' the same after it: one book gives the answer that its rules give for the keys current then. A line that is refused before asks neither.
@@ -55,8 +58,22 @@ SheetAnswered sheet text =
     ((length sheet ≤ 65535) × LinesOfSheet sheet text)
     ⊎ ((65535 < length sheet) × (text ≡ answer_line 0 (Err LongSheet)))
 
--- What is written to answer an input: the sheet is all that this had left, where that is known.
-pub record AnswersInput (left o p : Option (List ℕ)) : Type 0 where
+-- the text answers the sheet, and no other text does
+abbrev pub OneAnswer : List ℕ → List ℕ → Type 0
+OneAnswer sheet text = SheetAnswered sheet text × ((other : List ℕ) → SheetAnswered sheet other → other ≡ text)
+
+-- the text answers the sheet that an input had left, where that is known
+pub record InputAnswered (left : Option (List ℕ)) (text : List ℕ) : Type 0 where
   pub sheet : List ℕ
   pub whole : IfSome left (λ bytes. sheet ≡ bytes)
-  pub answered : Writes o p (SheetAnswered sheet)
+  pub answer : OneAnswer sheet text
+
+-- What is written for an input that had this left, where the writer was `old` and is `new`: the text that answers it. Where memory lacks, nothing is written.
+-- Where a stream fails, nothing or a beginning of that text is.
+abbrev pub Replied : {W : Type 0} → (W → Option (List ℕ)) → Option (List ℕ) → W → W → Result (Unit {0}) Fault → Type 0
+Replied contents left old new (Ok done) =
+    (text : List ℕ) × InputAnswered left text × Appends (contents old) (contents new) text
+Replied contents left old new (Err Memory) = new ≡ old
+Replied contents left old new (Err Stream) =
+    (new ≡ old) ⊎ ((text : List ℕ) × InputAnswered left text × Begins (contents old) (contents new) text)
+Replied contents left old new (Err fault) = ⊥

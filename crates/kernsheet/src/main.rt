@@ -1,22 +1,24 @@
 //! Answers the sheet on standard input, line by line, by a kerning book and a ligature book that begin empty.
 #![tactic(auto)]
 
-ghost use Rattle.std.specs.Prelude.{◌≡◌, ◌≤◌, [], length, take, Err, OnOk, IfOk, IfSome};
-ghost use Rattle.std.specs.Io.KnownBytes.{Appends};
-ghost use Rattle.std.specs.Io.Buffered.{writer_buffer, writer_contents, writer_inner};
+ghost use Rattle.std.specs.Prelude.{◌≡◌, ◌≤◌, ◌⊎◌, [], length, take, Err, IfOk, IfErr, IfSome};
+ghost use Rattle.kinds.specs.Bytes.{pair_bytes, sequence_bytes};
 ghost use Rattle.figures.specs.Coming.{lines_left};
-ghost use Rattle.book.specs.Standings.{standing};
+ghost use Rattle.book.specs.Reached.{state};
 ghost use Rattle.answers.specs.Texts.{answer_line};
-ghost use Rattle.kernsheet.specs.Lines.{LinesDone, Writes};
-ghost use Rattle.kernsheet.specs.Sheets.{SheetAnswered, AnswersInput};
+ghost use Rattle.console.specs.declared.fault.Fault.TheVariants.{Memory, Stream};
+ghost use Rattle.kernsheet.specs.Fresh.{IsFresh, terms};
+ghost use Rattle.kernsheet.specs.Sheets.{LinesAnswered, OneAnswer, Replied};
 
 use answers::{SheetFault, write_fault};
+use console::fault::Fault;
+use console::output::send;
+use console::text::read_text;
 use filter::{Filter, Plan};
 use kinds::{Fibonacci, Fingerprint, Fnv1a, Kern, Ligature, Pair, Sequence};
 use listtable::ListTable;
 use sheet::{Book, Lines, do_line, lines_of};
-use std::alloc::Global;
-use std::io;
+use std::alloc::{AllocError, Global};
 use std::io::{Read, Write};
 use std::process::ExitCode;
 use tables::{Record, Table};
@@ -35,58 +37,58 @@ fn plan_of(q: u32, r: u32) -> Plan
     plan
 }
 
-/// Does the lines in turn, and writes their answers.
-// kept: an answer is written into a buffer of the caller's, and nothing is allocated for it. The books are over any tables and fingerprints, since a contract
-// names what these say of themselves by their type parameters.
-fn answer_lines<
-    W: Write,
-    X: Table<Kern>,
-    P: Fingerprint<Kern>,
-    Y: Table<Ligature>,
-    Q: Fingerprint<Ligature>,
->(
-    out: &mut W,
+/// Does the lines in turn, and gives their answers as one text. The books hold nothing before.
+// kept: the books are over any tables and fingerprints, since a contract names what these say of themselves by their type parameters.
+fn answer_lines<X: Table<Kern>, P: Fingerprint<Kern>, Y: Table<Ligature>, Q: Fingerprint<Ligature>>(
+    heap: Global,
     kerns: &mut Book<'_, '_, '_, '_, X, P>,
     ligatures: &mut Book<'_, '_, '_, '_, Y, Q>,
     lines: Lines<'_>,
-) -> io::Result<()>
+) -> Result<Vec<u8>, AllocError>
     requires few { length (lines_left lines) ≤ 65535 }
     requires kerns { X.Table.sound kerns.old.table.now }
     requires ligatures { Y.Table.sound ligatures.old.table.now }
-    ensures { let kern = standing X.Table.meaning X.Table.lender X.Table.beyond P.Fingerprint.number in
-        let ligature = standing Y.Table.meaning Y.Table.lender Y.Table.beyond Q.Fingerprint.number in
-        OnOk result (Writes (W.contents out.old) (W.contents out.new)
-        (LinesDone (kern kerns.old) (kern kerns.new) (ligature ligatures.old) (ligature ligatures.new) 1 (lines_left lines.entry))) }
+    requires fresh_kerns { let kern = state X.Table.meaning P.Fingerprint.number kerns.old in
+        IsFresh pair_bytes kern }
+    requires fresh_ligatures { let ligature = state Y.Table.meaning Q.Fingerprint.number ligatures.old in
+        IsFresh sequence_bytes ligature }
+    ensures { let kern = state X.Table.meaning P.Fingerprint.number kerns.old in
+        let ligature = state Y.Table.meaning Q.Fingerprint.number ligatures.old in
+        IfOk result (λ text.
+        LinesAnswered (terms pair_bytes kern) (terms sequence_bytes ligature) [] [] 1
+        (lines_left lines.entry) text.items) }
 {
+    let mut text = Vec::new(heap);
     for (line, number) in lines.zip(1..) {
         let mut answer = [0u8; 32];
         let Ok(bytes) = do_line(kerns, ligatures, &mut answer, number, line) else {
             unreachable!()
         };
-        out.write_all(&answer[..bytes])?;
+        text.extend_from_slice(&answer[..bytes])?;
     }
-    Ok(())
+    Ok(text)
 }
 
-/// Writes the answer to a sheet that is refused as a whole.
-// kept: its buffer too is the caller's.
-fn answer_fault<W: Write>(out: &mut W, fault: SheetFault) -> io::Result<()>
-    ensures { OnOk result (Appends (W.contents out.old) (W.contents out.new) (answer_line fault.line (Err fault.fault))) }
+/// The answer to a sheet that is refused as a whole.
+fn answer_fault(heap: Global, fault: SheetFault) -> Result<Vec<u8>, AllocError>
+    ensures { IfOk result (λ text. text.items ≡ answer_line fault.line (Err fault.fault)) }
 {
     let mut answer = [0u8; 32];
     let Ok(bytes) = write_fault(&mut answer, fault) else {
         unreachable!()
     };
-    out.write_all(&answer[..bytes])
+    let mut text = Vec::new(heap);
+    text.extend_from_slice(&answer[..bytes])?;
+    Ok(text)
 }
 
-/// Answers a sheet by two books that begin empty. A sheet that is too long gets one answer.
-fn answer_sheet<W: Write>(out: &mut W, sheet: &[u8]) -> io::Result<()>
-    ensures { OnOk result (Writes (W.contents out.old) (W.contents out.new) (SheetAnswered sheet.now)) }
+/// The text that answers a sheet, by two books that begin empty. A sheet that is too long gets one line.
+fn answer_sheet(heap: Global, sheet: &[u8]) -> Result<Vec<u8>, AllocError>
+    ensures { IfOk result (λ text. OneAnswer sheet.now text.items) }
 {
     let lines = match lines_of(sheet) {
         Ok(lines) => lines,
-        Err(fault) => return answer_fault(out, fault),
+        Err(fault) => return answer_fault(heap, fault),
     };
     let mut kern_words = [0u64; 135];
     let mut kern_records = [Record {
@@ -112,42 +114,31 @@ fn answer_sheet<W: Write>(out: &mut W, sheet: &[u8]) -> io::Result<()>
         table: &mut ligature_table,
         by: &Fnv1a,
     };
-    answer_lines(out, &mut kerns, &mut ligatures, lines)
+    answer_lines(heap, &mut kerns, &mut ligatures, lines)
 }
 
 /// The sheet that an input has, but no more bytes than show that it is too long.
-fn read_sheet<R: Read + Drop>(heap: Global, input: R) -> io::Result<Vec<u8>>
-    ensures { IfOk result (λ sheet. IfSome (R.remaining input) (λ bytes. sheet.items ≡ take 65536 bytes)) }
+fn read_sheet<R: Read + Drop>(heap: Global, input: R) -> Result<Vec<u8>, Fault>
+    ensures sheet { IfOk result (λ sheet.
+        IfSome (R.remaining input) (λ bytes. sheet.items ≡ take 65536 bytes)) }
+    ensures fault { IfErr result (λ fault. (fault ≡ Memory) ⊎ (fault ≡ Stream)) }
 {
-    let mut sheet = Vec::new(heap);
-    input.take(MOST).read_to_end(&mut sheet)?;
-    Ok(sheet)
+    read_text(heap, &mut input.take(MOST))
 }
 
-/// Answers the sheet that an input has. Nothing of the answer is left in the buffer.
-fn answer_input<R: Read + Drop, W: Write + Drop>(
-    heap: Global,
-    input: R,
-    out: &mut io::BufWriter<W>,
-) -> io::Result<()>
-    ensures answered { OnOk result (AnswersInput (R.remaining input) (writer_contents W.contents out.old) (W.contents (writer_inner out.new))) }
-    ensures empty { OnOk result (writer_buffer out.new ≡ []) }
+/// Answers the sheet that an input has. Nothing is written before all of the answer is there.
+fn answer_input<R: Read + Drop, W: Write>(heap: Global, input: R, out: &mut W) -> Result<(), Fault>
+    ensures { Replied W.contents (R.remaining input) out.old out.new result }
 {
     let sheet = read_sheet(heap, input)?;
-    answer_sheet(out, sheet.as_slice())?;
-    out.flush()
-}
-
-/// Answers standard input on standard output.
-fn run(rt: &HostRuntime) -> io::Result<()> {
-    let mut out = io::BufWriter::new(rt.alloc(), rt.stdout())?;
-    answer_input(rt.alloc(), rt.stdin(), &mut out)
+    let text = answer_sheet(heap, sheet.as_slice())?;
+    send(out, text.as_slice())
 }
 
 fn main(rt: HostRuntime) -> ExitCode {
-    match run(&rt) {
+    match answer_input(rt.alloc(), rt.stdin(), &mut rt.stdout()) {
         Ok(()) => ExitCode::SUCCESS,
-        Err(error) if error.kind() == io::ErrorKind::OutOfMemory => {
+        Err(Fault::Memory) => {
             let _ = rt.eprintln("kernsheet: out of memory");
             ExitCode::FAILURE
         }
