@@ -104,8 +104,8 @@ module _ (r : ℕ) (ps : List ℕ) (pos : 0 < r) where
         by_bits (word_index r b m) (λ i. row_bit r ps b (64 * (m - 3) + i)) (row_two b m) (λ i g.
         let n : ℕ = 64 * (m - 3) + i in
         let short : n < 64 * r = omega arith in
-        let at = row_place r b n pos short in
-        let whole : place_of r (64 * b + n / r) + n % r ≡ 64 * word_index r b m + i = omega (arith, at.1) in
+        let lies = row_place r b n pos short in
+        let whole : place_of r (64 * b + n / r) + n % r ≡ 64 * word_index r b m + i = omega (arith, lies.1) in
         let word : (64 * word_index r b m + i) / 64 ≡ word_index r b m = omega arith in
         let inner : (64 * word_index r b m + i) % 64 ≡ i = omega arith in
         sym (ap₂ (λ x y. bit_at (get_or ws x 0) y) word inner) ∙ sym (bit_row ws all (64 * word_index r b m + i))

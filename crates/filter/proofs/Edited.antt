@@ -1,10 +1,10 @@
 -- One entry more or less, from where it was found to the list that is then held.
-use Rattle.std.proofs.Common.{◌≡◌, ℕ, zero, suc, ◌+◌, ◌-◌, ◌*◌, ◌^◌, ◌<◌, ◌≤◌, Bool, true, false, cond, ◌&&◌, eqb, ltb, ◌≢◌, ◌⊎◌, List, [], ◌∷◌, length, get_or, filter, sym, refl, ap, ◌∙◌, subst, ap₂, ⊎_elim, true≢false, mod-lt, arith, pow_pos}
-use Rattle.std.proofs.lemmas.Bool.{cases_eq, cases_lt, cond-true, eq-eqb, ne_eqb, lt-ltb, le-ltb}
+use Rattle.std.proofs.Common.{◌≡◌, ℕ, zero, suc, ◌+◌, ◌-◌, ◌*◌, ◌^◌, ◌<◌, ◌≤◌, Bool, false, ◌&&◌, eqb, ltb, ◌≢◌, ◌⊎◌, List, [], ◌∷◌, length, get_or, sym, refl, ap, ◌∙◌, subst, ap₂, ⊎_elim, true≢false, mod-lt, arith, pow_pos}
+use Rattle.std.proofs.lemmas.Bool.{cases_eq, cases_lt, cond-true, cond-false, eq-eqb, ne_eqb, lt-ltb, le-ltb}
 use Rattle.std.proofs.lemmas.List.{length-map}
 use Rattle.words.proofs.Rows.{Words}
 use Rattle.layout.specs.Format.{filter_words}
-use Rattle.layout.specs.Rule.{quotient, remainder, insert, remove, run, many}
+use Rattle.layout.specs.Rule.{bit, quotient, remainder, insert, remove, run, many}
 use Rattle.layout.specs.Runs.{remainders}
 use Rattle.layout.specs.Load.{start, FirstFree, FirstIdle}
 use Rattle.layout.specs.Moves.{Fit}
@@ -15,6 +15,7 @@ use Rattle.layout.proofs.Bridge.{layout_law}
 use Rattle.layout.proofs.Edits.{insert_slots_law, remove_slots_law}
 use Rattle.layout.proofs.Inserts.{one_remove, sorted_insert, sorted_remove}
 use Rattle.layout.proofs.Loads.{load_step, remove_law}
+use Rattle.layout.proofs.Sorts.{count_here}
 use Rattle.blocks.specs.Views.{occupied_bit_in, remainder_in, offset_in, Shows}
 use Rattle.blocks.proofs.Forms.{words_from_views}
 use Rattle.filter.specs.Meaning.{size_of, held_in, Sound}
@@ -27,13 +28,15 @@ use Rattle.filter.proofs.Locatings.{within, load_is}
 
 count_none : (v : ℕ) (l : List ℕ) → ((i : ℕ) → i < length l → get_or l i 0 ≡ v → ⊥) → count v l ≡ 0
 count_none v [] h = refl
-count_none v (x ∷ l) h = rw (ne_eqb x v (λ e. h 0 (omega arith) e)) (count_none v l (λ i g e. h (suc i) (omega arith) e))
+count_none v (x ∷ l) h =
+    let other : bit (eqb x v) ≡ 0 = cond-false (eqb x v) 1 0 (ne_eqb x v (λ e. h 0 (omega arith) e)) in
+    omega (arith, count_here x v l, count_none v l (λ i g e. h (suc i) (omega arith) e))
 
 count_some : (v : ℕ) (l : List ℕ) (j : ℕ) → j < length l → get_or l j 0 ≡ v → 0 < count v l
 count_some v [] j g e = absurd (omega arith)
-count_some v (x ∷ l) zero g e = rw (eq-eqb x v e) (omega arith)
-count_some v (x ∷ l) (suc j) g e =
-    elim (eqb x v) as (λ b. 0 < length (cond b (x ∷ filter (λ y. eqb y v) l) (filter (λ y. eqb y v) l))) [ true ↦ omega arith | false ↦ count_some v l j (omega arith) e ]
+count_some v (x ∷ l) zero g e =
+    let same : bit (eqb x v) ≡ 1 = cond-true (eqb x v) 1 0 (eq-eqb x v e) in omega (arith, count_here x v l)
+count_some v (x ∷ l) (suc j) g e = omega (arith, count_here x v l, count_some v l j (omega arith) e)
 
 pub remainder_low : (r p : ℕ) → remainder r p < 2 ^ r
 unfolding remainder

@@ -8,7 +8,6 @@ use Rattle.std.proofs.lemmas.Bool.{cases_lt}
 use Rattle.words.proofs.Rows.{Words}
 use Rattle.layout.specs.Rule.{quotient, Sorted, sorted, many_from, Crowded, Roomy}
 use Rattle.layout.specs.Format.{filter_words, block_count}
-use Rattle.layout.proofs.Bags.{count_law}
 use Rattle.layout.proofs.Inserts.{sorted_sorted, all_sorted}
 use Rattle.layout.proofs.Rooms.{any_order_law, bound_law}
 use Rattle.blocks.specs.Views.{Shows}

@@ -84,14 +84,14 @@ more_rising f p = is_sorted (insert p (fingerprints f)) (sorted_insert p (finger
 pub more_facts : (f : Filter) (p u held : ℕ) (vs : List ℕ) → p < 2 ^ (f.plan.q + f.plan.r) → FirstFree (many f.plan.r (fingerprints f)) (quotient f.plan.r p) u → u < slots_of f
     → length (words_of f) ≡ length vs → held ≡ f.held + 1 → vs ≡ laid_over f.plan.r f.blocks (insert p (fingerprints f)) (words_of f)
     → Facts f.plan.q f.plan.r f.blocks held vs
-more_facts f p u held vs small free l len count is =
+more_facts f p u held vs small free l len counts is =
     let es = fingerprints f in
     let bound : ℕ = 2 ^ (f.plan.q + f.plan.r) in
     facts f.plan.q f.plan.r f.blocks held (insert p es) (drop (size_of f.plan.r f.blocks) (words_of f)) vs f.plan.some
     (f.sized ∙ ap (block_count f.plan.r) len) (more_rising f p)
     ((insert_room_law (slots_of f) f.plan.r p es (sorted_is es f.rising) f.roomy).1 u free l)
     (λ k g. All-get_or (λ x. x < bound) (insert p es) k 0 g (all_insert (λ x. x < bound) p es small (All-from_get_or (λ x. x < bound) es 0 f.narrow)))
-    (omega (arith, count, f.counted, length_insert p es)) is
+    (omega (arith, counts, f.counted, length_insert p es)) is
 
 -- what `Added` says, of the words that were left
 pub added : (f : Filter) (p u : ℕ) (vs : List ℕ) → FirstFree (many f.plan.r (fingerprints f)) (quotient f.plan.r p) u → u < slots_of f
@@ -230,9 +230,9 @@ module _ (f : Filter) (list : List ℕ) (narrow : Narrow f.plan list) where
   -- the list in rising order has room
   pub list_facts : (held : ℕ) (vs : List ℕ) → Roomy (slots_of f) f.plan.r (sorted list) → length (words_of f) ≡ length vs → held ≡ length list
       → vs ≡ laid_over f.plan.r f.blocks (sorted list) (words_of f) → Facts f.plan.q f.plan.r f.blocks held vs
-  list_facts held vs room len count is =
+  list_facts held vs room len counts is =
       facts f.plan.q f.plan.r f.blocks held (sorted list) (drop (size_of f.plan.r f.blocks) (words_of f)) vs f.plan.some (f.sized ∙ ap (block_count f.plan.r) len)
-      (is_sorted (sorted list) (sorted_sorted list)) room (narrow_sorted (2 ^ (f.plan.q + f.plan.r)) list narrow) (count ∙ sym (length_sorted list)) is
+      (is_sorted (sorted list) (sorted_sorted list)) room (narrow_sorted (2 ^ (f.plan.q + f.plan.r)) list narrow) (counts ∙ sym (length_sorted list)) is
 
   pub list_laid : (vs : List ℕ) → Roomy (slots_of f) f.plan.r (sorted list) → vs ≡ laid_over f.plan.r f.blocks (sorted list) (words_of f)
       → Roomy (slots_of f) f.plan.r list × (entries_of f.plan.r f.blocks vs ≡ sorted list) × (vs ≡ laid_over f.plan.r f.blocks list (words_of f))

@@ -5,10 +5,11 @@ use Rattle.std.proofs.lemmas.List.{take_more, take_all}
 use Rattle.std.proofs.lemmas.Bool.{cases_lt, cases_eq, cond-true, lt-ltb}
 use Rattle.layout.specs.Rule.{quotient, remainder, Sorted, Entry, laid, remainder_at, run, many, Roomy}
 use Rattle.layout.specs.Load.{load, start, busy, tally, Select, Ends}
-use Rattle.layout.proofs.Bridge.{after, after_more, at_entry, at_free}
+use Rattle.layout.proofs.Bridge.{after_more, at_entry, at_free}
 use Rattle.layout.proofs.Inserts.{whole}
 use Rattle.layout.proofs.Loads.{cell_of, load_none, load_step, start_step, start_mono}
-use Rattle.layout.proofs.Passes.{next_of, slot_of, at_slot, at_gap, at_end, slot_below}
+use Rattle.layout.specs.Places.{after, next_of, slot_of}
+use Rattle.layout.proofs.Passes.{at_slot, at_gap, at_end, slot_below}
 use Rattle.layout.proofs.Ranks.{tally_step, tally_mono, rank_is, last_one}
 use Rattle.layout.proofs.Rooms.{select_one_law}
 use Rattle.layout.proofs.Splits.{run_all}

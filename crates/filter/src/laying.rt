@@ -2,7 +2,7 @@
 ghost use Rattle.std.specs.Prelude.{◌≡◌, ℕ, ◌*◌, ◌<◌, ◌≤◌, [], length, if◌then◌else◌, slice_index};
 ghost use Rattle.layout.specs.Rule.{sorted, Roomy, quotient, remainder, laid, runend_at};
 ghost use Rattle.layout.specs.Format.{filter_words};
-ghost use Rattle.layout.proofs.Passes.{slot_of, next_of};
+ghost use Rattle.layout.specs.Places.{slot_of, next_of};
 ghost use Rattle.blocks.specs.Views.{Shows};
 ghost use Rattle.blocks.specs.Moves.{Within};
 ghost use Rattle.filter.specs.Meaning.{size_of};

@@ -1,6 +1,7 @@
 -- Keys that are the same, and lists of the same keys.
 use Rattle.std.proofs.Common.{◌≡◌, ℕ, ◌+◌, ◌<◌, Bool, true, false, eqb, ◌⊎◌, List, [], ◌∷◌, map, length, sym, refl, ap, ◌∙◌, inl, inr, ⊎_elim, arith}
 use Rattle.std.proofs.lemmas.Bool.{eq-eqb, cond-true, cases_Bool}
+use Rattle.std.proofs.lemmas.List.Sums.{sum_by-cons}
 use Rattle.kinds.specs.Keys.{same_key}
 use Rattle.layout.specs.Rule.{bit}
 use Rattle.layout.specs.Laws.{count}
@@ -19,12 +20,10 @@ one_key bytes apart a b =
 
 module _ {K : Type 0} (bytes : K → List ℕ) (apart : (a b : K) → bytes a ≡ bytes b → a ≡ b) where
   times_nil : (k : K) → times bytes k [] ≡ 0
-  unfolding times
   times_nil k = refl
 
   pub times_cons : (k q : K) (ks : List K) → times bytes k (q ∷ ks) ≡ bit (same_key bytes q k) + times bytes k ks
-  unfolding times
-  times_cons k q ks = refl
+  times_cons k q ks = sum_by-cons (λ x. bit (same_key bytes x k)) q ks
 
   -- lists of the same keys are equally long
   pub length_same : (ks ls : List K) → ((k : K) → times bytes k ks ≡ times bytes k ls) → length ks ≡ length ls

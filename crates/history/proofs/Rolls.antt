@@ -1,5 +1,5 @@
 -- The keys of a table, and their fingerprints, after a set or a removal.
-use Rattle.std.proofs.Common.{◌≡◌, ℕ, suc, ◌+◌, ◌<◌, ◌≤◌, Bool, true, false, cond, ◌⊎◌, List, [], ◌∷◌, ◌++◌, map, length, get_or, take, drop, is_some, Some, None, Option, sym, refl, ap, ◌∙◌, inl, inr, arith}
+use Rattle.std.proofs.Common.{◌≡◌, ℕ, suc, ◌+◌, ◌<◌, ◌≤◌, Bool, true, false, cond, ◌⊎◌, List, [], ◌∷◌, ◌++◌, map, length, get_or, take, drop, is_some, Some, None, Option, sym, refl, ap, ◌∙◌, subst, inl, inr, arith}
 use Rattle.std.proofs.lemmas.List.{take_more, take-append-drop, map-append}
 use Rattle.std.proofs.lemmas.Bool.{cases_lt}
 use Rattle.kinds.specs.Keys.{same_key}
@@ -9,14 +9,15 @@ use Rattle.tables.specs.Meaning.{Meaning, Revalued}
 use Rattle.tables.specs.declared.record.Record.{Record}
 use Rattle.history.specs.History.{times, Current}
 use Rattle.history.proofs.Entries.{Alike}
+use Rattle.tables.proofs.Counts.{count_cons}
 use Rattle.tables.proofs.Options.{same_is}
 use Rattle.history.proofs.Keys.{times_cons, numbers_same}
 
 pub length_keys : {K V : Type 0} (rows : List (Option (Record K V))) → length (keys_of rows) ≡ count rows
-unfolding keys_of count
+unfolding keys_of
 length_keys [] = refl
-length_keys (None ∷ rows) = length_keys rows
-length_keys (Some r ∷ rows) = let h = length_keys rows in omega arith
+length_keys {K} {V} (None ∷ rows) = omega (arith, length_keys rows, count_cons {R = Record K V} None rows)
+length_keys (Some r ∷ rows) = omega (arith, length_keys rows, count_cons (Some r) rows)
 
 module _ {K V : Type 0} (bytes : K → List ℕ) (apart : (a b : K) → bytes a ≡ bytes b → a ≡ b) where
   -- a place that holds key k
@@ -36,10 +37,10 @@ module _ {K V : Type 0} (bytes : K → List ℕ) (apart : (a b : K) → bytes a 
 
   -- a key that is counted stands somewhere
   times_stands : (rows : List (Option (Record K V))) (k : K) → 0 < times bytes k (keys_of rows) → Stands rows k
-  unfolding keys_of times
+  unfolding keys_of
   times_stands [] k h = absurd (omega arith)
   times_stands (None ∷ rows) k h = stands_later None rows k (times_stands rows k h)
-  times_stands (Some r ∷ rows) k h = stands_case (same_key bytes r.key k) r rows k refl (times_stands rows k) h
+  times_stands (Some r ∷ rows) k h = stands_case (same_key bytes r.key k) r rows k refl (times_stands rows k) (subst (λ n. 0 < n) (times_cons bytes apart k r.key (keys_of rows)) h)
 
   apart_rest : (o : Option (Record K V)) (rows : List (Option (Record K V))) → Apart (o ∷ rows) → Apart rows
   apart_rest o rows a t =
@@ -59,10 +60,12 @@ module _ {K V : Type 0} (bytes : K → List ℕ) (apart : (a b : K) → bytes a 
 
   -- the keys of a table are the current ones, by what it holds
   pub current_keys : (rows : List (Option (Record K V))) → Apart rows → Current bytes (lookup bytes rows) (keys_of rows)
-  unfolding keys_of times lookup
+  unfolding keys_of lookup
   current_keys [] a k = refl
   current_keys (None ∷ rows) a k = current_keys rows (apart_rest None rows a) k
-  current_keys (Some r ∷ rows) a k = current_case (same_key bytes r.key k) r rows k a (current_keys rows (apart_rest (Some r) rows a) k) refl
+  current_keys (Some r ∷ rows) a k =
+      times_cons bytes apart k r.key (keys_of rows)
+      ∙ current_case (same_key bytes r.key k) r rows k a (current_keys rows (apart_rest (Some r) rows a) k) refl
 
   -- one key gets another value, or a value, or none
   module _ (number : K → ℕ) (m n : Meaning K V) (a : Apart m.rows) (b : Apart n.rows) (key : K) where

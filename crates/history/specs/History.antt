@@ -2,6 +2,7 @@
 use Rattle.std.specs.Prelude.{◌≡◌, ℕ, ◌+◌, List, [], ◌∷◌, ◌++◌, map, length, is_some, Some, None, Ok, Err, Option, Result}
 use Rattle.kinds.specs.Keys.{same_key}
 use Rattle.layout.specs.Rule.{bit}
+use Rattle.std.specs.List.{count_by}
 use Rattle.history.specs.declared.operation.Operation.{Operation}
 use Rattle.history.specs.declared.operation.Operation.TheVariants.{Put, Drop, Find}
 use Rattle.history.specs.declared.answer.Found.{Found as FindAnswer}
@@ -58,9 +59,8 @@ pub record Follows {K V : Type 0} (opening : K → Option V) (h : History K V) (
   pub first : (k : K) → Untouched h k → value k ≡ opening k
 
 -- how often a key stands in a list
-unfoldable pub times : {K : Type 0} → (K → List ℕ) → K → List K → ℕ
-times bytes k [] = 0
-times bytes k (q ∷ ks) = bit (same_key bytes q k) + times bytes k ks
+abbrev pub times : {K : Type 0} → (K → List ℕ) → K → List K → ℕ
+times bytes k ks = count_by (λ q. same_key bytes q k) ks
 
 -- ks are the current keys: each key that has a value stands there once, and no other
 abbrev pub Current : {K V : Type 0} → (K → List ℕ) → (K → Option V) → List K → Type 0

@@ -2,11 +2,12 @@
 use Rattle.std.proofs.Common.{◌≡◌, ℕ, suc, ◌+◌, ◌-◌, ◌<◌, ◌≤◌, Bool, true, false, cond, eqb, ltb, ◌≢◌, List, [], ◌∷◌, length, filter, sym, refl, ap, ◌∙◌, subst, ⊎_elim, arith}
 use Rattle.std.specs.List.{AllByRecursion as Every}
 use Rattle.std.proofs.ByRecursion.{kept_by_passes}
+use Rattle.std.proofs.lemmas.List.Sums.{length-filter}
 use Rattle.std.proofs.lemmas.Bool.{cases_lt, cases_eq, cond-true, cond-false, eq-eqb, ne_eqb, lt-ltb, le-ltb, eqb-true}
 use Rattle.layout.specs.Load.{load, start}
 use Rattle.layout.specs.Rule.{bit, quotient, remainder, Sorted, insert, remove, sorted, laid, used_at, remainder_at, runend_at, offset_at, many, occupied_at}
 use Rattle.layout.specs.Runs.{fingerprint_at, remainders, PlaceLaw}
-use Rattle.layout.specs.Laws.{CountLaw, FindLaw, FreeLaw, RemoveOccupiedLaw}
+use Rattle.layout.specs.Laws.{count, CountLaw, FindLaw, FreeLaw, RemoveOccupiedLaw}
 use Rattle.layout.proofs.Bridge.{at_entry, layout_law, offset_law}
 use Rattle.layout.proofs.Moves.{used_is, bit_pos, bit_zero}
 use Rattle.layout.proofs.Inserts.{kept_insert, kept_remove, insert_front, length_insert, eqb_rems, one_remove}
@@ -32,28 +33,33 @@ is_sorted (p ∷ ps) (k, s) = ap (insert p) (is_sorted ps s) ∙ insert_front p 
 
 pub count_law : CountLaw
 count_law p q ps =
-    let t : ℕ → Bool = λ x. eqb x q in (
-      count_sorted t ps,
-      λ s. ap length (kept_insert t p ps s)
-          ∙ elim (eqb p q) as (λ b. length (cond b (insert p (filter t ps)) (filter t ps)) ≡ length (filter t ps) + bit b)
-          [ true ↦ omega (arith, length_insert p (filter t ps)) | false ↦ omega arith ],
-      ap length (kept_remove t p ps)
-          ∙ ⊎_elim
-          (λ (e : p ≡ q).
-          let one : bit (eqb p q) ≡ 1 = cond-true (eqb p q) 1 0 (eq-eqb p q e) in
-          ap length (cond-true (eqb p q) _ _ (eq-eqb p q e))
-          ∙ omega (arith, one, length_remove_same p (filter t ps) (subst (λ z. Every (λ x. eqb x z ≡ true) (filter t ps)) (sym e) (kept_by_passes t ps))))
-          (λ (e : p ≢ q).
-          let none : bit (eqb p q) ≡ 0 = cond-false (eqb p q) 1 0 (ne_eqb p q e) in
-          ap length (cond-false (eqb p q) _ _ (ne_eqb p q e)) ∙ omega (arith, none))
-          (cases_eq p q),
+    let t : ℕ → Bool = λ x. eqb x q in
+    let by : (xs : List ℕ) → count q xs ≡ length (filter t xs) = λ xs. sym (length-filter t xs) in
+    let more : Sorted ps → length (filter t (insert p ps)) ≡ length (filter t ps) + bit (eqb p q) =
+    λ s. ap length (kept_insert t p ps s)
+    ∙ elim (eqb p q) as (λ b. length (cond b (insert p (filter t ps)) (filter t ps)) ≡ length (filter t ps) + bit b)
+    [ true ↦ omega (arith, length_insert p (filter t ps)) | false ↦ omega arith ] in
+    let less : length (filter t (remove p ps)) ≡ length (filter t ps) - bit (eqb p q) =
+    ap length (kept_remove t p ps)
+    ∙ ⊎_elim
+    (λ (e : p ≡ q).
+    let one : bit (eqb p q) ≡ 1 = cond-true (eqb p q) 1 0 (eq-eqb p q e) in
+    ap length (cond-true (eqb p q) _ _ (eq-eqb p q e))
+    ∙ omega (arith, one, length_remove_same p (filter t ps) (subst (λ z. Every (λ x. eqb x z ≡ true) (filter t ps)) (sym e) (kept_by_passes t ps))))
+    (λ (e : p ≢ q).
+    let none : bit (eqb p q) ≡ 0 = cond-false (eqb p q) 1 0 (ne_eqb p q e) in
+    ap length (cond-false (eqb p q) _ _ (ne_eqb p q e)) ∙ omega (arith, none))
+    (cases_eq p q) in (
+      by (sorted ps) ∙ count_sorted t ps ∙ sym (by ps),
+      λ s. by (insert p ps) ∙ more s ∙ ap (λ n. n + bit (eqb p q)) (sym (by ps)),
+      by (remove p ps) ∙ less ∙ ap (λ n. n - bit (eqb p q)) (sym (by ps)),
       is_sorted ps,
     )
 
-pub find_law : FindLaw
-find_law r p [] = refl
-find_law r p (q ∷ qs) =
-    let ih = find_law r p qs in
+kept_remainders : (r p : ℕ) (ps : List ℕ) → length (filter (λ x. eqb x p) ps) ≡ length (filter (λ x. eqb x (remainder r p)) (remainders r ps (quotient r p)))
+kept_remainders r p [] = refl
+kept_remainders r p (q ∷ qs) =
+    let ih = kept_remainders r p qs in
     ⊎_elim
     (λ (e : quotient r q ≡ quotient r p). rw (eq-eqb (quotient r q) (quotient r p) e, eqb_rems r q p e)
     (elim (eqb (remainder r q) (remainder r p)) as
@@ -62,6 +68,10 @@ find_law r p (q ∷ qs) =
     [ true ↦ ap suc ih | false ↦ ih ]))
     (λ (e : quotient r q ≢ quotient r p). rw (ne_eqb (quotient r q) (quotient r p) e, ne_eqb q p (λ z. e (ap (quotient r) z))) ih)
     (cases_eq (quotient r q) (quotient r p))
+
+pub find_law : FindLaw
+find_law r p ps =
+    sym (length-filter (λ x. eqb x p) ps) ∙ kept_remainders r p ps ∙ length-filter (λ x. eqb x (remainder r p)) (remainders r ps (quotient r p))
 
 pub free_law : FreeLaw
 free_law r ps s c u l z full =

@@ -6,6 +6,7 @@ use Rattle.std.proofs.ByRecursion.{All-get_or}
 use Rattle.std.proofs.lemmas.Bool.{cases_lt, cond-true, cond-false, eq-eqb, ne_eqb, lt-ltb, le-ltb, le-leb, lt-leb, and_from, and_left, and_right}
 use Rattle.layout.specs.Load.{load, start}
 use Rattle.layout.specs.Rule.{bit, quotient, remainder, Sorted, Entry, laid, at, used_at, remainder_at, runend_at, others, run, many, offset_at}
+use Rattle.layout.specs.Places.{after}
 use Rattle.layout.specs.Runs.{remainders, LayoutLaw, OffsetLaw}
 use Rattle.layout.proofs.Loads.{load_step, load_none, start_step}
 use Rattle.layout.proofs.Ranks.{bit_eq, bit_ne}
@@ -16,30 +17,25 @@ empty [] l = refl
 empty (x ∷ xs) l = absurd (omega arith)
 
 module _ (r : ℕ) where
-  -- the slot after the last fingerprint
-  abbrev pub after : ℕ → List ℕ → ℕ
-  after next [] = next
-  after next (p ∷ ps) = after (suc (max (quotient r p) next)) ps
-
-  pub after_mono : (next : ℕ) (ps : List ℕ) → next ≤ after next ps
+  pub after_mono : (next : ℕ) (ps : List ℕ) → next ≤ after r next ps
   after_mono next [] = omega arith
   after_mono next (p ∷ ps) = omega (arith, after_mono (suc (max (quotient r p) next)) ps)
 
-  pub after_append : (next : ℕ) (a b : List ℕ) → after next (a ++ b) ≡ after (after next a) b
+  pub after_append : (next : ℕ) (a b : List ℕ) → after r next (a ++ b) ≡ after r (after r next a) b
   after_append next [] b = refl
   after_append next (p ∷ a) b = after_append (suc (max (quotient r p) next)) a b
 
   -- one fingerprint more
-  pub after_more : (ps : List ℕ) (i : ℕ) → i < length ps → after 0 (take (i + 1) ps) ≡ suc (max (quotient r (get_or ps i 0)) (after 0 (take i ps)))
-  after_more ps i l = ap (after 0) (take_more ps i 0 l) ∙ after_append 0 (take i ps) (get_or ps i 0 ∷ [])
+  pub after_more : (ps : List ℕ) (i : ℕ) → i < length ps → after r 0 (take (i + 1) ps) ≡ suc (max (quotient r (get_or ps i 0)) (after r 0 (take i ps)))
+  after_more ps i l = ap (after r 0) (take_more ps i 0 l) ∙ after_append 0 (take i ps) (get_or ps i 0 ∷ [])
 
   -- the fingerprints of one quotient lie side by side
-  after_run : (x next : ℕ) (ps : List ℕ) → Every (λ p. quotient r p ≡ x) ps → 0 < length ps → after next ps ≡ max x next + length ps
+  after_run : (x next : ℕ) (ps : List ℕ) → Every (λ p. quotient r p ≡ x) ps → 0 < length ps → after r next ps ≡ max x next + length ps
   after_run x next [] a l = absurd (omega arith)
   after_run x next (p ∷ []) (e, a) l = omega (arith, e)
   after_run x next (p ∷ q ∷ ps) (e, a) l = omega (arith, e, after_run x (suc (max (quotient r p) next)) (q ∷ ps) a (omega arith))
 
-  after_none : (next : ℕ) (ps : List ℕ) → length ps ≤ 0 → after next ps ≡ next
+  after_none : (next : ℕ) (ps : List ℕ) → length ps ≤ 0 → after r next ps ≡ next
   after_none next [] l = refl
   after_none next (p ∷ ps) l = absurd (omega arith)
 
@@ -47,20 +43,20 @@ module _ (r : ℕ) where
   lower_none [] = refl
   lower_none (p ∷ ps) = rw (le-ltb (quotient r p) 0 (omega arith)) (lower_none ps)
 
-  pub starts : (ps : List ℕ) → Sorted ps → (x : ℕ) → max x (after 0 (lower r ps x)) ≡ start (many r ps) x
-  starts ps s zero = omega (arith, ap (after 0) (lower_none ps), load_none (many r ps))
+  pub starts : (ps : List ℕ) → Sorted ps → (x : ℕ) → max x (after r 0 (lower r ps x)) ≡ start (many r ps) x
+  starts ps s zero = omega (arith, ap (after r 0) (lower_none ps), load_none (many r ps))
   starts ps s (suc x) =
       let ih = starts ps s x in
-      let e : after 0 (lower r ps (suc x)) ≡ after (after 0 (lower r ps x)) (run r ps x) = ap (after 0) (lower_step r ps x s) ∙ after_append 0 (lower r ps x) (run r ps x) in
+      let e : after r 0 (lower r ps (suc x)) ≡ after r (after r 0 (lower r ps x)) (run r ps x) = ap (after r 0) (lower_step r ps x s) ∙ after_append 0 (lower r ps x) (run r ps x) in
       ⊎_elim
-      (λ (l : 0 < many r ps x). omega (arith, ih, e, load_step (many r ps) x, after_run x (after 0 (lower r ps x)) (run r ps x) (run_all r ps x) l))
-      (λ (l : many r ps x ≤ 0). omega (arith, ih, e, load_step (many r ps) x, after_none (after 0 (lower r ps x)) (run r ps x) l))
+      (λ (l : 0 < many r ps x). omega (arith, ih, e, load_step (many r ps) x, after_run x (after r 0 (lower r ps x)) (run r ps x) (run_all r ps x) l))
+      (λ (l : many r ps x ≤ 0). omega (arith, ih, e, load_step (many r ps) x, after_none (after r 0 (lower r ps x)) (run r ps x) l))
       (cases_lt 0 (many r ps x))
 
   -- ---- what lies in one slot
 
   module _ {X : Type 0} (f : ℕ → List Entry → X) (d : X) where
-    pub at_skip : (next : ℕ) (a b : List ℕ) (s : ℕ) → after next a ≤ s → at f d (laid r next (a ++ b)) s ≡ at f d (laid r (after next a) b) s
+    pub at_skip : (next : ℕ) (a b : List ℕ) (s : ℕ) → after r next a ≤ s → at f d (laid r next (a ++ b)) s ≡ at f d (laid r (after r next a) b) s
     unfolding at laid
     at_skip next [] b s l = refl
     at_skip next (p ∷ a) b s l =
@@ -99,23 +95,23 @@ module _ (r : ℕ) where
     -- the slots of quotient x
     module _ (ps : List ℕ) (s : Sorted ps) (x : ℕ) where
       at_cell : (t : ℕ) → start (many r ps) x ≤ t
-          → at f d (laid r 0 ps) t ≡ at f d (laid r (after 0 (lower r ps x)) (run r ps x ++ upper r ps (suc x))) t
+          → at f d (laid r 0 ps) t ≡ at f d (laid r (after r 0 (lower r ps x)) (run r ps x ++ upper r ps (suc x))) t
       at_cell t l =
           ap (λ l. at f d (laid r 0 l) t) (halves r ps x s) ∙ at_skip 0 (lower r ps x) (upper r ps x) t (omega (arith, starts ps s x))
-          ∙ ap (λ l. at f d (laid r (after 0 (lower r ps x)) l) t) (upper_step r ps x s)
+          ∙ ap (λ l. at f d (laid r (after r 0 (lower r ps x)) l) t) (upper_step r ps x s)
 
       pub at_entry : (j : ℕ) → j < many r ps x
           → at f d (laid r 0 ps) (start (many r ps) x + j) ≡ f (get_or (run r ps x) j 0) (laid r (suc (start (many r ps) x + j)) (drop (suc j) (run r ps x) ++ upper r ps (suc x)))
       at_entry j l =
-          let A : ℕ = after 0 (lower r ps x) in
+          let A : ℕ = after r 0 (lower r ps x) in
           let P : ℕ → Type 0 = λ n. at f d (laid r A (run r ps x ++ upper r ps (suc x))) (n + j) ≡ f (get_or (run r ps x) j 0) (laid r (suc (n + j)) (drop (suc j) (run r ps x) ++ upper r ps (suc x))) in
           at_cell (start (many r ps) x + j) (omega arith) ∙ subst P (starts ps s x) (at_run x A (run r ps x) (upper r ps (suc x)) j (run_all r ps x) l)
 
       pub at_free : load (many r ps) x + many r ps x ≡ 0 → at f d (laid r 0 ps) x ≡ d
       at_free z =
           let e : run r ps x ≡ [] = empty (run r ps x) (omega arith) in
-          at_cell x (omega arith) ∙ ap (λ l. at f d (laid r (after 0 (lower r ps x)) (l ++ upper r ps (suc x))) x) e
-          ∙ at_beyond (after 0 (lower r ps x)) (upper r ps (suc x)) x (upper_all r ps (suc x))
+          at_cell x (omega arith) ∙ ap (λ l. at f d (laid r (after r 0 (lower r ps x)) (l ++ upper r ps (suc x))) x) e
+          ∙ at_beyond (after r 0 (lower r ps x)) (upper r ps (suc x)) x (upper_all r ps (suc x))
 
   -- ---- the views
 
@@ -191,7 +187,7 @@ module _ (r : ℕ) where
       omega (arith, z, late_beyond x (suc k) b a)
 
   pub late : (x next : ℕ) (a b : List ℕ) → Every (λ p. quotient r p < x) a → Every (λ p. x ≤ quotient r p) b
-      → offset_at r (laid r next (a ++ b)) x + (next - x) ≡ after next a - x
+      → offset_at r (laid r next (a ++ b)) x + (next - x) ≡ after r next a - x
   unfolding offset_at laid
   late x next [] b g h = omega (arith, late_beyond x next b h)
   late x next (p ∷ a) b (l, g) h =

@@ -1,13 +1,14 @@
 -- One pass over fingerprints in rising order: what each of them adds to the slots.
-use Rattle.std.proofs.Common.{◌≡◌, ℕ, suc, ◌+◌, ◌-◌, ◌<◌, ◌≤◌, max, cond, not, eqb, ltb, leb, ◌≢◌, List, [], ◌∷◌, length, get_or, take, drop, sym, refl, ap, ◌∙◌, subst, ⊎_elim, arith}
+use Rattle.std.proofs.Common.{◌≡◌, ℕ, suc, ◌+◌, ◌-◌, ◌<◌, ◌≤◌, cond, not, eqb, ltb, leb, ◌≢◌, List, [], ◌∷◌, length, get_or, take, drop, sym, refl, ap, ◌∙◌, subst, ⊎_elim, arith}
 use Rattle.std.specs.List.{AllByRecursion as Every}
 use Rattle.std.proofs.lemmas.List.{drop_more, drop_all, take-append-drop, append-nil, get_or-take, get_or-drop, length-take, length-drop}
 use Rattle.std.proofs.ByRecursion.{All-from_get_or}
 use Rattle.std.proofs.lemmas.List.Filters.{length-filter_more}
 use Rattle.std.proofs.lemmas.Bool.{cases_lt, cases_eq, cases_order, cond-true, cond-false, eq-eqb, ne_eqb, lt-ltb, le-ltb, le-leb, lt-leb}
 use Rattle.layout.specs.Rule.{bit, quotient, Sorted, Entry, laid, at, others, runend_at, offset_at, many, many_from, occupied_at, Roomy}
+use Rattle.layout.specs.Places.{after, next_of, slot_of}
 use Rattle.layout.proofs.Splits.{quotient_mono, upper}
-use Rattle.layout.proofs.Bridge.{after, after_mono, after_append, after_more, at_skip, at_under, late}
+use Rattle.layout.proofs.Bridge.{after_mono, after_append, after_more, at_skip, at_under, late}
 use Rattle.layout.proofs.Bounds.{rises}
 use Rattle.layout.proofs.Rooms.{room_load_law, room_after}
 
@@ -36,44 +37,37 @@ pub advance_none : (full f : ℕ → ℕ) → ((k : ℕ) → f k ≡ 0) → (k :
 advance_none full f h k = h k ∙ sym (cond-false (ltb k 0) (full k) 0 (le-ltb k 0 (omega arith)))
 
 module _ (r : ℕ) (ps : List ℕ) where
-  -- the slot after the first i, and the slot of the i-th
-  abbrev pub next_of : ℕ → ℕ
-  next_of i = after r 0 (take i ps)
-
-  abbrev pub slot_of : ℕ → ℕ
-  slot_of i = max (quotient r (get_or ps i 0)) (next_of i)
-
   module _ {X : Type 0} (f : ℕ → List Entry → X) (d : X) where
-    rest : (i k : ℕ) → i < length ps → next_of i ≤ k → at f d (laid r 0 ps) k ≡ at f d (laid r (next_of i) (get_or ps i 0 ∷ drop (i + 1) ps)) k
+    rest : (i k : ℕ) → i < length ps → next_of r ps i ≤ k → at f d (laid r 0 ps) k ≡ at f d (laid r (next_of r ps i) (get_or ps i 0 ∷ drop (i + 1) ps)) k
     rest i k l g =
         ap (λ xs. at f d (laid r 0 xs) k) (sym (take-append-drop i ps)) ∙ at_skip r f d 0 (take i ps) (drop i ps) k g
-        ∙ ap (λ xs. at f d (laid r (next_of i) xs) k) (drop_more ps i 0 l)
+        ∙ ap (λ xs. at f d (laid r (next_of r ps i) xs) k) (drop_more ps i 0 l)
 
-    pub at_slot : (i : ℕ) → i < length ps → at f d (laid r 0 ps) (slot_of i) ≡ f (get_or ps i 0) (laid r (suc (slot_of i)) (drop (i + 1) ps))
+    pub at_slot : (i : ℕ) → i < length ps → at f d (laid r 0 ps) (slot_of r ps i) ≡ f (get_or ps i 0) (laid r (suc (slot_of r ps i)) (drop (i + 1) ps))
     unfolding at laid
-    at_slot i l = rest i (slot_of i) l (omega arith) ∙ cond-true (eqb (slot_of i) (slot_of i)) _ _ (eq-eqb (slot_of i) (slot_of i) refl)
+    at_slot i l = rest i (slot_of r ps i) l (omega arith) ∙ cond-true (eqb (slot_of r ps i) (slot_of r ps i)) _ _ (eq-eqb (slot_of r ps i) (slot_of r ps i) refl)
 
-    pub at_gap : (i k : ℕ) → i < length ps → next_of i ≤ k → k < slot_of i → at f d (laid r 0 ps) k ≡ d
+    pub at_gap : (i k : ℕ) → i < length ps → next_of r ps i ≤ k → k < slot_of r ps i → at f d (laid r 0 ps) k ≡ d
     unfolding at laid
     at_gap i k l g h =
-        rest i k l g ∙ cond-false (eqb k (slot_of i)) _ _ (ne_eqb k (slot_of i) (λ e. omega arith)) ∙ at_under r f d (suc (slot_of i)) (drop (i + 1) ps) k (omega arith)
+        rest i k l g ∙ cond-false (eqb k (slot_of r ps i)) _ _ (ne_eqb k (slot_of r ps i) (λ e. omega arith)) ∙ at_under r f d (suc (slot_of r ps i)) (drop (i + 1) ps) k (omega arith)
 
     pub at_end : (k : ℕ) → after r 0 ps ≤ k → at f d (laid r 0 ps) k ≡ d
     unfolding at laid
     at_end k g = ap (λ xs. at f d (laid r 0 xs) k) (sym (append-nil ps)) ∙ at_skip r f d 0 ps [] k g
 
   -- the i-th ends its run if it is the last or the next has another quotient
-  pub ends_last : (i : ℕ) → i < length ps → length ps ≤ i + 1 → runend_at r (laid r 0 ps) (slot_of i) ≡ 1
+  pub ends_last : (i : ℕ) → i < length ps → length ps ≤ i + 1 → runend_at r (laid r 0 ps) (slot_of r ps i) ≡ 1
   unfolding others laid
   ends_last i l g =
       at_slot (λ p later. bit (others r (quotient r p) later)) 0 i l
-      ∙ ap (λ xs. bit (others r (quotient r (get_or ps i 0)) (laid r (suc (slot_of i)) xs))) (drop_all (i + 1) ps g)
+      ∙ ap (λ xs. bit (others r (quotient r (get_or ps i 0)) (laid r (suc (slot_of r ps i)) xs))) (drop_all (i + 1) ps g)
 
-  pub ends_next : (i : ℕ) → i + 1 < length ps → runend_at r (laid r 0 ps) (slot_of i) ≡ bit (not (eqb (quotient r (get_or ps (i + 1) 0)) (quotient r (get_or ps i 0))))
+  pub ends_next : (i : ℕ) → i + 1 < length ps → runend_at r (laid r 0 ps) (slot_of r ps i) ≡ bit (not (eqb (quotient r (get_or ps (i + 1) 0)) (quotient r (get_or ps i 0))))
   unfolding others laid
   ends_next i l =
       at_slot (λ p later. bit (others r (quotient r p) later)) 0 i (omega arith)
-      ∙ ap (λ xs. bit (others r (quotient r (get_or ps i 0)) (laid r (suc (slot_of i)) xs))) (drop_more ps (i + 1) 0 l)
+      ∙ ap (λ xs. bit (others r (quotient r (get_or ps i 0)) (laid r (suc (slot_of r ps i)) xs))) (drop_more ps (i + 1) 0 l)
 
   -- its quotient is occupied
   pub occupied_more : (i : ℕ) → i < length ps → (k : ℕ) → occupied_at r (take (i + 1) ps) k ≡ cond (eqb k (quotient r (get_or ps i 0))) 1 (occupied_at r (take i ps) k)
@@ -92,7 +86,7 @@ module _ (r : ℕ) (ps : List ℕ) where
 
   -- the offset at x, where the first i are those with a quotient below x
   pub offset_cut : Sorted ps → (i x : ℕ) → i ≤ length ps → ((k : ℕ) → k < i → quotient r (get_or ps k 0) < x) → (i < length ps → x ≤ quotient r (get_or ps i 0))
-      → offset_at r (laid r 0 ps) x ≡ next_of i - x
+      → offset_at r (laid r 0 ps) x ≡ next_of r ps i - x
   offset_cut s i x l low high =
       ap (λ xs. offset_at r (laid r 0 xs) x) (sym (take-append-drop i ps))
       ∙ (let cut = late r x 0 (take i ps) (drop i ps)

@@ -11,7 +11,8 @@ use Rattle.layout.proofs.Loads.{find_free, jump_law}
 use Rattle.layout.proofs.Crowds.{served, uncrowded, insert_crowding_law}
 use Rattle.layout.proofs.Ranks.{tally_step, tally_mono, rank_is, selected, in_block}
 use Rattle.layout.proofs.Splits.{lower, upper, upper_step, halves}
-use Rattle.layout.proofs.Bridge.{after, after_mono, starts, empty, layout_law, offset_law}
+use Rattle.layout.specs.Places.{after}
+use Rattle.layout.proofs.Bridge.{after_mono, starts, empty, layout_law, offset_law}
 use Rattle.layout.proofs.Moves.{used_is, bit_pos}
 use Rattle.layout.proofs.Inserts.{sorted_insert, sorted_sorted, kept_insert, kept_remove, one_insert, length_insert}
 

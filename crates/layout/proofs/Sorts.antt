@@ -1,9 +1,9 @@
 -- Sorted lists with the same fingerprints are one list, and a list that was sorted is `sorted` of what it was.
-use Rattle.std.proofs.Common.{◌≡◌, ℕ, suc, ◌+◌, ◌<◌, ◌≤◌, true, false, cond, eqb, ◌≢◌, List, [], ◌∷◌, length, filter, sym, refl, ap, ◌∙◌, ap₂, ⊎_elim, arith}
+use Rattle.std.proofs.Common.{◌≡◌, ℕ, suc, ◌+◌, ◌<◌, ◌≤◌, eqb, ◌≢◌, List, [], ◌∷◌, length, sym, refl, ap, ◌∙◌, ap₂, ⊎_elim, arith}
 use Rattle.std.specs.Ordering.{nat_cmp}
 use Rattle.std.specs.List.Sorted.{IsPermutation, IsSortedByKey, IsNonDecreasing}
 use Rattle.std.specs.List.{AllByRecursion as Every}
-use Rattle.std.proofs.lemmas.List.Sums.{length-filter}
+use Rattle.std.proofs.lemmas.List.Sums.{sum_by-cons}
 use Rattle.std.proofs.lemmas.List.Sorted.{sum_by-IsPermutation, IsNonDecreasingBy-from_sort}
 use Rattle.std.proofs.ByRecursion.{All-from_get_or}
 use Rattle.std.proofs.lemmas.Bool.{cases_order, cases_eq, eq-eqb, ne_eqb, cond-true, cond-false}
@@ -13,9 +13,7 @@ use Rattle.layout.proofs.Inserts.{sorted_sorted, length_insert}
 use Rattle.layout.proofs.Bags.{count_law}
 
 pub count_here : (p q : ℕ) (ps : List ℕ) → count q (p ∷ ps) ≡ bit (eqb p q) + count q ps
-count_here p q ps =
-    elim (eqb p q) as (λ b. length (cond b (p ∷ filter (λ x. eqb x q) ps) (filter (λ x. eqb x q) ps)) ≡ bit b + count q ps)
-    [ true ↦ omega arith | false ↦ omega arith ]
+count_here p q ps = sum_by-cons (λ x. bit (eqb x q)) p ps
 
 -- of a list from q on, something smaller is not there
 count_below : (p q : ℕ) (ps : List ℕ) → p < q → Every (λ x. q ≤ x) ps → count p ps ≡ 0
@@ -49,8 +47,7 @@ sorted_rising (x ∷ xs) h = (
 )
 
 pub count_shuffled : (p : ℕ) (xs ys : List ℕ) → IsPermutation xs ys → count p ys ≡ count p xs
-count_shuffled p xs ys h =
-    length-filter (λ x. eqb x p) ys ∙ sum_by-IsPermutation (λ x. cond (eqb x p) 1 0) xs ys h ∙ sym (length-filter (λ x. eqb x p) xs)
+count_shuffled p xs ys h = sum_by-IsPermutation (λ x. bit (eqb x p)) xs ys h
 
 -- what a sort leaves
 pub sorted_from_sort : (xs ys : List ℕ) → IsPermutation xs ys → IsNonDecreasing ys → ys ≡ sorted xs

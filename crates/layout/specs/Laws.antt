@@ -1,5 +1,5 @@
 -- What holds of the slots that the rule gives: room, rank and select, and reading back.
-use Rattle.std.specs.Prelude.{◌≡◌, ℕ, zero, suc, ◌+◌, ◌-◌, ◌*◌, ◌^◌, ◌<◌, ◌≤◌, max, cond, ◌⊎◌, List, [], ◌∷◌, ◌++◌, map, length, filter, ◌==◌, nat_eq, nat_lt, slice_index}
+use Rattle.std.specs.Prelude.{◌≡◌, ℕ, zero, suc, ◌+◌, ◌-◌, ◌*◌, ◌^◌, ◌<◌, ◌≤◌, max, cond, ◌⊎◌, List, [], ◌∷◌, ◌++◌, map, length, ◌==◌, nat_eq, nat_lt, slice_index, count_by}
 use Rattle.std.specs.List.{AllByRecursion as Every}
 use Rattle.layout.specs.Moves.{Fit}
 use Rattle.layout.specs.Load.{load, tally, rank, Select, FirstFree, FirstIdle}
@@ -95,8 +95,9 @@ ReadLaw = (slots r bound : ℕ) (ps : List ℕ) → Sorted ps → Roomy slots r 
 
 -- ---- the fingerprints as a bag
 
+-- how often p is in a list
 abbrev pub count : ℕ → List ℕ → ℕ
-count p ps = length (filter (λ q. nat_eq q p) ps)
+count p ps = count_by (λ q. nat_eq q p) ps
 
 -- sorting keeps each fingerprint as often as it was; an insertion adds one, and a removal takes one away
 abbrev pub CountLaw : Type 0

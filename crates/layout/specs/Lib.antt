@@ -1,4 +1,5 @@
 pub mod Rule
+pub mod Places
 pub mod Format
 pub mod Load
 pub mod Runs

@@ -1,5 +1,5 @@
 -- The places of a table: a list, each place free or with a record.
-use Rattle.std.specs.Prelude.{◌≡◌, ℕ, ◌+◌, cond, List, [], ◌∷◌, Some, None, Option, slice_index_or}
+use Rattle.std.specs.Prelude.{◌≡◌, ℕ, cond, List, [], ◌∷◌, is_some, Some, None, Option, slice_index_or, count_by}
 use Rattle.kinds.specs.Keys.{same_key}
 use Rattle.tables.specs.declared.record.Record.{Record}
 
@@ -10,10 +10,8 @@ lookup bytes (None ∷ rows) k = lookup bytes rows k
 lookup bytes (Some r ∷ rows) k = cond (same_key bytes r.key k) (Some r.value) (lookup bytes rows k)
 
 -- how many places hold a record
-unfoldable pub count : {R : Type 0} → List (Option R) → ℕ
-count [] = 0
-count (None ∷ rows) = count rows
-count (Some r ∷ rows) = 1 + count rows
+abbrev pub count : {R : Type 0} → List (Option R) → ℕ
+count rows = count_by is_some rows
 
 -- the keys that are held, in the order of their places
 unfoldable pub keys_of : {K V : Type 0} → List (Option (Record K V)) → List K

@@ -2,7 +2,8 @@ use Rattle.std.proofs.Common.{◌≡◌, ℕ, ◌+◌, ◌-◌, ◌/◌, ◌^◌
 use lib.Pow.{shr_le}
 use Rattle.std.proofs.lemmas.List.{take_all}
 use Rattle.layout.specs.Rule.{quotient}
-use Rattle.layout.proofs.Bridge.{after, after_more}
+use Rattle.layout.specs.Places.{after}
+use Rattle.layout.proofs.Bridge.{after_more}
 use Rattle.layout.proofs.Rooms.{room_after}
 use Rattle.layout.proofs.slots_needed.Goals as goal
 

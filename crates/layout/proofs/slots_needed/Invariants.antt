@@ -1,5 +1,5 @@
 use Rattle.std.proofs.Common.{◌≡◌, ◌+◌, ◌^◌, ◌≤◌, take}
-use Rattle.layout.proofs.Bridge.{after}
+use Rattle.layout.specs.Places.{after}
 use Rattle.layout.proofs.slots_needed.Given as goal
 
 -- `next` is the slot after the fingerprints so far

@@ -3,8 +3,9 @@ use Rattle.std.proofs.ByRecursion.{All-get_or}
 use Rattle.std.proofs.lemmas.List.{take_all}
 use Rattle.layout.specs.Rule.{bit, quotient, remainder, laid, others, occupied_at, runend_at, remainder_at}
 use Rattle.layout.proofs.Bounds.{empty_law}
-use Rattle.layout.proofs.Bridge.{after, after_more}
-use Rattle.layout.proofs.Passes.{advance, advanced, advance_none, next_of, slot_of, at_slot, at_gap, at_end, occupied_more, quotients_below, slot_below}
+use Rattle.layout.proofs.Bridge.{after_more}
+use Rattle.layout.specs.Places.{after, next_of, slot_of}
+use Rattle.layout.proofs.Passes.{advance, advanced, advance_none, at_slot, at_gap, at_end, occupied_more, quotients_below, slot_below}
 use Rattle.blocks.specs.Views.{runend_in, remainder_in}
 use Rattle.blocks.proofs.Moving.{within_all}
 use Rattle.filter.proofs.Held.{sorted_is}

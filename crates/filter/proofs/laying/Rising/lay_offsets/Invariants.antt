@@ -1,6 +1,6 @@
 use Rattle.std.proofs.Common.{◌≡◌, ℕ, ◌*◌, ◌<◌, ◌≤◌, cond, ltb, length, get_or}
 use Rattle.layout.specs.Rule.{quotient, laid, occupied_at, runend_at, offset_at, remainder_at}
-use Rattle.layout.proofs.Passes.{next_of}
+use Rattle.layout.specs.Places.{next_of}
 use Rattle.blocks.specs.Views.{occupied_bit_in, runend_in, offset_in, remainder_in}
 use Rattle.filter.proofs.laying.Rising.lay_offsets.Given as goal
 

@@ -3,7 +3,8 @@ use Rattle.std.proofs.lemmas.List.{get_or-drop, take_rest}
 use Rattle.std.proofs.lemmas.Bool.{cases_eq}
 use Rattle.layout.specs.Rule.{quotient}
 use Rattle.layout.proofs.Bridge.{after_more}
-use Rattle.layout.proofs.Passes.{next_of, next_below}
+use Rattle.layout.specs.Places.{next_of}
+use Rattle.layout.proofs.Passes.{next_below}
 use Rattle.layout.proofs.Rooms.{room_after}
 use Rattle.filter.specs.declared.laying.Rising.{Rising}
 use Rattle.filter.proofs.Held.{sorted_is}

@@ -1,6 +1,6 @@
 use Rattle.std.proofs.Common.{◌≡◌, ℕ, ◌+◌, ◌<◌, ◌≤◌, get_or}
 use Rattle.layout.specs.Rule.{quotient}
-use Rattle.layout.proofs.Passes.{next_of}
+use Rattle.layout.specs.Places.{next_of}
 use Rattle.filter.proofs.laying.Rising.skip_below.Given as goal
 
 -- the next k have quotients below the bound, and `after` is the slot after them
