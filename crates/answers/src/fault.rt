@@ -1,5 +1,5 @@
 ghost use Rattle.std.specs.Prelude.{◌≡◌, ◌++◌, Some, codes, decimal};
-ghost use Rattle.answers.specs.Faults.{number_of, buffer_number};
+ghost use Rattle.answers.specs.Faults.{refusal_number, buffer_fault_number};
 ghost use Rattle.answers.specs.declared.fault.Refusal.TheVariants.{Buffer, Line, Book};
 
 use forms::LineFault;
@@ -17,7 +17,7 @@ pub enum BufferFault {
 impl BufferFault {
     /// The number that a customer sees.
     pub fn number(self) -> u32
-        ensures { result ≡ buffer_number self }
+        ensures { result ≡ buffer_fault_number self }
     {
         match self {
             BufferFault::ShortBuffer => 52,
@@ -28,7 +28,7 @@ impl BufferFault {
 /// Its number.
 // kept: Display is implemented for one type at a time, and no macro of the repository may write impls.
 impl fmt::Display for BufferFault {
-    ghost output = { λ f. Some (decimal (buffer_number f)) };
+    ghost output = { λ f. Some (decimal (buffer_fault_number f)) };
 
     fn fmt<W: fmt::Write>(&self, f: &mut fmt::Formatter<W>) -> fmt::Result {
         let number = self.number();
@@ -54,7 +54,7 @@ pub enum Refusal {
 impl Refusal {
     /// The number that a customer sees.
     pub fn number(self) -> u32
-        ensures { result ≡ number_of self }
+        ensures { result ≡ refusal_number self }
     {
         match self {
             Refusal::LongSheet => 54,
@@ -68,7 +68,7 @@ impl Refusal {
 /// Its number.
 // kept: Display is implemented for one type at a time, and no macro of the repository may write impls.
 impl fmt::Display for Refusal {
-    ghost output = { λ f. Some (decimal (number_of f)) };
+    ghost output = { λ f. Some (decimal (refusal_number f)) };
 
     fn fmt<W: fmt::Write>(&self, f: &mut fmt::Formatter<W>) -> fmt::Result {
         write!(f, "{}", self.number())
@@ -111,7 +111,8 @@ pub struct SheetFault {
 
 /// Its line and its number, as they are written in answer to the line, without byte 10.
 impl fmt::Display for SheetFault {
-    ghost output = { λ f. Some (decimal f.line ++ (codes " fault " ++ decimal (number_of f.fault))) };
+    ghost output = { λ f. Some
+        (decimal f.line ++ (codes " fault " ++ decimal (refusal_number f.fault))) };
 
     fn fmt<W: fmt::Write>(&self, f: &mut fmt::Formatter<W>) -> fmt::Result {
         write!(f, "{} fault {}", self.line, self.fault)

@@ -1,8 +1,8 @@
 //! Writing an answer into a buffer of the caller's.
 ghost use Rattle.std.specs.Prelude.{◌≡◌, ◌+◌, ◌≤◌, ◌++◌, length, Err, decimal};
 ghost use Rattle.arrayvec.specs.ArrayString.{array_string_len};
-ghost use Rattle.history.specs.Texts.{book_text};
-ghost use Rattle.answers.specs.Texts.{Answered, answer_line, text_for};
+ghost use Rattle.history.specs.Texts.{value_told_text};
+ghost use Rattle.answers.specs.Texts.{AnswerWritten, answer_line, text_for};
 
 use crate::done::{Done, Told};
 use crate::fault::{BufferFault, Refusal, SheetFault};
@@ -29,7 +29,7 @@ fn push_number<I: Integer>(line: &mut Line, n: I)
 // kept: the words stand in the Display of `Told` too, but by its contract a `write!` may fail, also into enough fixed memory, and an answer may not.
 fn push_told<V: Integer>(line: &mut Line, told: Told<V>)
     requires { (array_string_len line.old ≤ 11) × (V.MAX_STR_LEN ≤ 6) }
-    ensures bytes { line.new.bytes ≡ line.old.bytes ++ book_text V.text told }
+    ensures bytes { line.new.bytes ≡ line.old.bytes ++ value_told_text V.text told }
     ensures most { array_string_len line.new ≤ array_string_len line.old + 17 }
 {
     match told {
@@ -80,7 +80,7 @@ pub fn write_answer(
     number: u32,
     reply: Result<Done, Refusal>,
 ) -> Result<usize, BufferFault>
-    ensures { Answered number reply buf.old buf.new result }
+    ensures { AnswerWritten number reply buf.old buf.new result }
 {
     if buf.len() < ROOM {
         return Err(BufferFault::ShortBuffer);
@@ -92,7 +92,7 @@ pub fn write_answer(
 
 /// Writes a refusal with its line, under the same rules.
 pub fn write_fault(buf: &mut [u8], fault: SheetFault) -> Result<usize, BufferFault>
-    ensures { Answered fault.line (Err fault.fault) buf.old buf.new result }
+    ensures { AnswerWritten fault.line (Err fault.fault) buf.old buf.new result }
 {
     write_answer(buf, fault.line, Err(fault.fault))
 }

@@ -26,12 +26,12 @@ Unanswered b = All (λ c. c.answer ≡ None) (vec_items b.kerns) × All (λ c. c
 
 -- Each line has a destination. One that means an operation of a book goes there, and its operation is the next of that book's; any other goes nowhere, by
 -- its fault.
-unfoldable pub Sorted : List (List ℕ) → List (Operation Pair ℤ) → List (Operation Sequence ℕ) → List Destination → Type 0
-Sorted [] ks gs ds = (ks ≡ []) × (gs ≡ []) × (ds ≡ [])
-Sorted (line ∷ lines) ks gs [] = ⊥
-Sorted (line ∷ lines) ks gs (Ok Kern ∷ ds) = (o : Operation Pair ℤ) × (more : List (Operation Pair ℤ)) × Meant line (Ok (command.Kern o)) × (ks ≡ o ∷ more) × Sorted lines more gs ds
-Sorted (line ∷ lines) ks gs (Ok Ligature ∷ ds) = (o : Operation Sequence ℕ) × (more : List (Operation Sequence ℕ)) × Meant line (Ok (command.Ligature o)) × (gs ≡ o ∷ more) × Sorted lines ks more ds
-Sorted (line ∷ lines) ks gs (Err f ∷ ds) = Meant line (Err f) × Sorted lines ks gs ds
+unfoldable pub SortedByBook : List (List ℕ) → List (Operation Pair ℤ) → List (Operation Sequence ℕ) → List Destination → Type 0
+SortedByBook [] ks gs ds = (ks ≡ []) × (gs ≡ []) × (ds ≡ [])
+SortedByBook (line ∷ lines) ks gs [] = ⊥
+SortedByBook (line ∷ lines) ks gs (Ok Kern ∷ ds) = (o : Operation Pair ℤ) × (more : List (Operation Pair ℤ)) × Meant line (Ok (command.Kern o)) × (ks ≡ o ∷ more) × SortedByBook lines more gs ds
+SortedByBook (line ∷ lines) ks gs (Ok Ligature ∷ ds) = (o : Operation Sequence ℕ) × (more : List (Operation Sequence ℕ)) × Meant line (Ok (command.Ligature o)) × (gs ≡ o ∷ more) × SortedByBook lines ks more ds
+SortedByBook (line ∷ lines) ks gs (Err f ∷ ds) = Meant line (Err f) × SortedByBook lines ks gs ds
 
 -- What a line that means this adds: to one book's operations, and to the destinations.
 abbrev pub Appended : Result Command LineFault → List (Operation Pair ℤ) → List (Operation Sequence ℕ) → List Destination → List (Operation Pair ℤ) → List (Operation Sequence ℕ) → List Destination → Type 0

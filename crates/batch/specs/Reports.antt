@@ -4,7 +4,7 @@ use Rattle.kinds.specs.declared.kern.Pair.{Pair}
 use Rattle.kinds.specs.declared.sequence.Sequence.{Sequence}
 use Rattle.history.specs.Rules.{Answer}
 use Rattle.history.specs.declared.call.Call.{Call}
-use Rattle.answers.specs.Faults.{number_of}
+use Rattle.answers.specs.Faults.{refusal_number}
 use Rattle.answers.specs.declared.fault.Refusal.{Refusal}
 use Rattle.answers.specs.declared.fault.Refusal.TheVariants.{Line, Book}
 use Rattle.batch.specs.Batches.{Destination}
@@ -18,9 +18,10 @@ refusal_for (Some (Ok told)) = None
 refusal_for (Some (Err f)) = Some (Book f)
 
 -- the refusal of the next call, if it was refused, and the calls after it
-abbrev pub Asked : {K V : Type 0} → List (Call K V) → Option Refusal → List (Call K V) → Type 0
-Asked [] refusal more = (refusal ≡ None) × (more ≡ [])
-Asked (c ∷ calls) refusal more = (refusal ≡ refusal_for c.answer) × (more ≡ calls)
+abbrev pub NextRefusal : {K V : Type 0} → List (Call K V) → Option Refusal → List (Call K V)
+    → Type 0
+NextRefusal [] refusal more = (refusal ≡ None) × (more ≡ [])
+NextRefusal (c ∷ calls) refusal more = (refusal ≡ refusal_for c.answer) × (more ≡ calls)
 
 -- line n in front of the refused ones, if it is refused
 abbrev pub noted : ℕ → Option Refusal → List RefusedLine → List RefusedLine
@@ -38,11 +39,11 @@ refused_from n (Ok Ligature ∷ ds) ks [] = refused_from (n + 1) ds ks []
 refused_from n (Ok Ligature ∷ ds) ks (c ∷ gs) = noted n (refusal_for c.answer) (refused_from (n + 1) ds ks gs)
 
 -- A line with this destination is refused so or not, and leaves these calls: so it is in front of any lines, whatever its own number.
-abbrev pub Told : Destination → List (Call Pair ℤ) → List (Call Sequence ℕ) → Option Refusal
+abbrev pub RefusalTold : Destination → List (Call Pair ℤ) → List (Call Sequence ℕ) → Option Refusal
     → List (Call Pair ℤ) → List (Call Sequence ℕ) → Type 0
-Told d ks gs refusal ks' gs' = (n : ℕ) (ds : List Destination)
+RefusalTold d ks gs refusal ks' gs' = (n : ℕ) (ds : List Destination)
     → refused_from n (d ∷ ds) ks gs ≡ noted n refusal (refused_from (n + 1) ds ks' gs')
 
 -- what is written of a refused line: its number and that of its refusal
-abbrev pub refused_text : RefusedLine → List ℕ
-refused_text l = codes "line " ++ (decimal l.line ++ (codes " fault " ++ decimal (number_of l.fault)))
+abbrev pub refused_line_text : RefusedLine → List ℕ
+refused_line_text l = codes "line " ++ (decimal l.line ++ (codes " fault " ++ decimal (refusal_number l.fault)))

@@ -1,5 +1,5 @@
 ghost use Rattle.std.specs.Prelude.{Some};
-ghost use Rattle.batch.specs.Reports.{refused_text};
+ghost use Rattle.batch.specs.Reports.{refused_line_text};
 
 use answers::Refusal;
 use forms::LineFault;
@@ -41,7 +41,7 @@ pub struct RefusedLine {
 
 /// Its number and that of its refusal.
 impl fmt::Display for RefusedLine {
-    ghost output = { λ r. Some (refused_text r) };
+    ghost output = { λ r. Some (refused_line_text r) };
 
     fn fmt<W: fmt::Write>(&self, f: &mut fmt::Formatter<W>) -> fmt::Result {
         write!(f, "line {} fault {}", self.line, self.fault)

@@ -1,7 +1,7 @@
 //! Reading a text of commands.
 ghost use Rattle.std.specs.Prelude.{◌≡◌, [], ◌∷◌, IfOk, None, Ok, OnOk};
 ghost use Rattle.figures.specs.Lines.{lines_of};
-ghost use Rattle.batch.specs.Batches.{operations, Unanswered, Sorted, Appended, Noted};
+ghost use Rattle.batch.specs.Batches.{operations, Unanswered, SortedByBook, Appended, Noted};
 
 use crate::lines::{Batch, BookKind};
 use figures::lines::Lines;
@@ -70,7 +70,7 @@ impl Batch {
 
 /// What the lines of a text ask, sorted by book, with no answer yet. A text may have any number of lines.
 pub fn batch_of(heap: Global, text: &[u8]) -> Result<Batch, AllocError>
-    ensures sorted { IfOk result (λ b. Sorted (lines_of text.now)
+    ensures sorted { IfOk result (λ b. SortedByBook (lines_of text.now)
         (operations b.kerns.items) (operations b.ligatures.items) b.lines.items) }
     ensures unanswered { IfOk result Unanswered }
 {

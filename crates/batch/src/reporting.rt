@@ -1,7 +1,7 @@
 //! Telling which lines were refused.
 ghost use Rattle.std.specs.Prelude.{◌≡◌, IfOk};
 ghost use Rattle.std.specs.Slice.Iter.{iter_rest};
-ghost use Rattle.batch.specs.Reports.{refused_from, Asked, Told};
+ghost use Rattle.batch.specs.Reports.{refused_from, NextRefusal, RefusalTold};
 
 use crate::lines::{Batch, BookKind, Destination, RefusedLine};
 use answers::Refusal;
@@ -12,7 +12,7 @@ use std::slice::Iter;
 
 // Why the next call was refused, if it was. One that has no answer was not, and past the last call there is none.
 fn next_refusal<Q: Copy, V: Copy>(calls: &mut Iter<'_, Call<Q, V>>) -> Option<Refusal>
-    ensures { Asked (iter_rest calls.old) result (iter_rest calls.new) }
+    ensures { NextRefusal (iter_rest calls.old) result (iter_rest calls.new) }
 {
     calls.next()?.answer?.err().map(Refusal::Book)
 }
@@ -24,7 +24,7 @@ fn refusal_of(
     kerns: &mut Iter<'_, Call<Pair, i16>>,
     ligatures: &mut Iter<'_, Call<Sequence, u16>>,
 ) -> Option<Refusal>
-    ensures { Told destination (iter_rest kerns.old) (iter_rest ligatures.old) result
+    ensures { RefusalTold destination (iter_rest kerns.old) (iter_rest ligatures.old) result
         (iter_rest kerns.new) (iter_rest ligatures.new) }
 {
     match destination {

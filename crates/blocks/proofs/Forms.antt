@@ -5,20 +5,21 @@ use lib.Arith.{digits_div, digits_mod}
 use Rattle.std.proofs.lemmas.List.FromFn.{fill_by_all, length-map-range_with_len, get_or-map-range_with_len}
 use Rattle.std.proofs.lemmas.List.{get_or_past}
 use Rattle.std.proofs.lemmas.Bool.{cases_lt, cases_eq, cond-false, ne_eqb}
-use Rattle.words.specs.Bits.{bits, bit_at}
-use Rattle.words.specs.Row.{row_of}
-use Rattle.words.proofs.Fields.{bits_lt, bits_at, bits_one, bit_lt, field_lt, bit_field}
+use Rattle.std.specs.Int.{bit_at}
+use Rattle.words.specs.Bits.{bits}
+use Rattle.words.specs.Row.{long_number}
+use Rattle.words.proofs.Fields.{bits_lt, bit_at-bits, bits_one, bit_lt, field_lt, bit_field}
 use Rattle.words.proofs.Rows.{Words, bit_row}
-use Rattle.layout.specs.Rule.{bit, quotient, remainder, sorted, Entry, layout, at, others, occupied_at, runend_at, offset_at, remainder_at, Roomy}
+use Rattle.layout.specs.Rule.{one_if, quotient, remainder, sorted, Entry, layout, reading_at, others, occupied_at, runend_at, offset_at, remainder_at, Roomy}
 use Rattle.layout.specs.Format.{row_bit, block_word, filter_words}
-use Rattle.layout.specs.Laws.{Within}
+use Rattle.layout.specs.Laws.{WithinSlots}
 use Rattle.layout.proofs.Inserts.{sorted_sorted}
 use Rattle.layout.proofs.Formats.{occupied_sorted}
 use Rattle.layout.proofs.Bounds.{within_law}
-use Rattle.blocks.specs.Views.{word_index, place_of, occupied_bit_in, runend_in, offset_in, remainder_in, Shows}
+use Rattle.blocks.specs.Views.{word_index, remainder_place, occupied_bit_in, runend_in, offset_in, remainder_in, Shows}
 use Rattle.blocks.proofs.Parts.{next, row_room}
 
-bit_two : (b : Bool) → bit b < 2
+bit_two : (b : Bool) → one_if b < 2
 bit_two true = omega arith
 bit_two false = omega arith
 
@@ -30,20 +31,20 @@ pub bit_of_none : (i : ℕ) → bit_at 0 i ≡ 0
 bit_of_none i = ap (λ x. x % 2) (zero-div (2 ^ i))
 
 -- what all f are below, any slot is below
-at_below : (n : ℕ) (f : ℕ → List Entry → ℕ) → 0 < n → ((p : ℕ) (es : List Entry) → f p es < n) → (es : List Entry) (s : ℕ) → at f 0 es s < n
-unfolding at
+at_below : (n : ℕ) (f : ℕ → List Entry → ℕ) → 0 < n → ((p : ℕ) (es : List Entry) → f p es < n) → (es : List Entry) (s : ℕ) → reading_at f 0 es s < n
+unfolding reading_at
 at_below n f pos h [] s = pos
-at_below n f pos h (e ∷ es) s = elim (eqb s e.slot) as (λ b. cond b (f e.fingerprint es) (at f 0 es s) < n) [ true ↦ h e.fingerprint es | false ↦ at_below n f pos h es s ]
+at_below n f pos h (e ∷ es) s = elim (eqb s e.slot) as (λ b. cond b (f e.fingerprint es) (reading_at f 0 es s) < n) [ true ↦ h e.fingerprint es | false ↦ at_below n f pos h es s ]
 
 runend_two : (r : ℕ) (es : List Entry) (s : ℕ) → runend_at r es s < 2
-runend_two r es s = at_below 2 (λ p later. bit (others r (quotient r p) later)) (omega arith) (λ p later. bit_two (others r (quotient r p) later)) es s
+runend_two r es s = at_below 2 (λ p later. one_if (others r (quotient r p) later)) (omega arith) (λ p later. bit_two (others r (quotient r p) later)) es s
 
 remainder_small : (r : ℕ) (es : List Entry) (s : ℕ) → remainder_at r es s < 2 ^ r
 unfolding remainder
 remainder_small r es s = at_below (2 ^ r) (λ p later. remainder r p) (pow_pos r) (λ p later. mod-lt p (pow_pos r)) es s
 
 -- place n of a row of slots of r bits, in the block that begins at word k
-row_place : (r b n : ℕ) → 0 < r → n < 64 * r → (n / r < 64) × (place_of r (64 * b + n / r) + n % r ≡ 64 * word_index r b 3 + n)
+row_place : (r b n : ℕ) → 0 < r → n < 64 * r → (n / r < 64) × (remainder_place r (64 * b + n / r) + n % r ≡ 64 * word_index r b 3 + n)
 row_place r b n pos l =
     let whole = div-add-mod' n r in
     let slot : n / r < 64 = ⊎_elim (λ (g : n / r < 64). g) (λ (g : 64 ≤ n / r). absurd (omega (arith, mul-le-mul_right r g))) (cases_lt (n / r) 64) in
@@ -79,7 +80,7 @@ module _ (r : ℕ) (ps : List ℕ) (pos : 0 < r) where
   module _ (ws : List ℕ) (all : Words ws) (shows : Shows r ws (sorted ps)) where
     -- a word with the bits of f
     by_bits : (k : ℕ) (f : ℕ → ℕ) → ((i : ℕ) → f i < 2) → ((i : ℕ) → i < 64 → bit_at (get_or ws k 0) i ≡ f i) → get_or ws k 0 ≡ bits f 64
-    by_bits k f two h = bits_one (get_or ws k 0) (bits f 64) 64 (all k) (bits_lt f 64 (λ i l. two i)) (λ i l. h i l ∙ sym (bits_at f 64 i (λ j l. two j) l))
+    by_bits k f two h = bits_one (get_or ws k 0) (bits f 64) 64 (all k) (bits_lt f 64 (λ i l. two i)) (λ i l. h i l ∙ sym (bit_at-bits f 64 i (λ j l. two j) l))
 
     word_shown : (b m : ℕ) → m < r + 3 → get_or ws (word_index r b m) 0 ≡ block_word r ps b m
     unfolding occupied_bit_in runend_in offset_in remainder_in
@@ -105,11 +106,11 @@ module _ (r : ℕ) (ps : List ℕ) (pos : 0 < r) where
         let n : ℕ = 64 * (m - 3) + i in
         let short : n < 64 * r = omega arith in
         let lies = row_place r b n pos short in
-        let whole : place_of r (64 * b + n / r) + n % r ≡ 64 * word_index r b m + i = omega (arith, lies.1) in
+        let whole : remainder_place r (64 * b + n / r) + n % r ≡ 64 * word_index r b m + i = omega (arith, lies.1) in
         let word : (64 * word_index r b m + i) / 64 ≡ word_index r b m = omega arith in
         let inner : (64 * word_index r b m + i) % 64 ≡ i = omega arith in
         sym (ap₂ (λ x y. bit_at (get_or ws x 0) y) word inner) ∙ sym (bit_row ws all (64 * word_index r b m + i))
-        ∙ sym (ap (bit_at (row_of ws)) whole) ∙ sym (bit_field (row_of ws) (place_of r (64 * b + n / r)) r (n % r) (mod-lt n pos))
+        ∙ sym (ap (bit_at (long_number ws)) whole) ∙ sym (bit_field (long_number ws) (remainder_place r (64 * b + n / r)) r (n % r) (mod-lt n pos))
         ∙ ap (λ x. bit_at x (n % r)) (shows.remainders (64 * b + n / r)))
         ∙ sym (row_word b m three)) (cases_eq m 2)) (cases_eq m 1)) (cases_eq m 0)
 
@@ -140,7 +141,7 @@ module _ (r : ℕ) (ps : List ℕ) (pos : 0 < r) where
     word_past : (k : ℕ) → blocks * (r + 3) ≤ k → get_or own k 0 ≡ 0
     word_past k l = get_or_past own k 0 (omega (arith, own_length))
 
-    within : Within (64 * blocks) r (sorted ps)
+    within : WithinSlots (64 * blocks) r (sorted ps)
     within = within_law (64 * blocks) r (sorted ps) (sorted_sorted ps) room
 
     offset_small : (b : ℕ) → offset_at r (layout r ps) (64 * b) < 2 ^ 64
@@ -178,7 +179,7 @@ module _ (r : ℕ) (ps : List ℕ) (pos : 0 < r) where
         (λ (l : c / 64 < blocks).
         let whole : 64 * (c / 64) + c % 64 ≡ c = omega arith in
         ap (λ x. bit_at x (c % 64)) (word_at (c / 64) 0 l (omega arith) ∙ first_word (c / 64))
-        ∙ bits_at (λ i. occupied_at r ps (64 * (c / 64) + i)) 64 (c % 64) (λ i _. bit_two _) (omega arith)
+        ∙ bit_at-bits (λ i. occupied_at r ps (64 * (c / 64) + i)) 64 (c % 64) (λ i _. bit_two _) (omega arith)
         ∙ ap (occupied_at r ps) whole ∙ sym (occupied_sorted r ps c))
         (λ (l : blocks ≤ c / 64). ap (λ x. bit_at x (c % 64)) (past_word (c / 64) 0 l) ∙ bit_of_none (c % 64) ∙ sym (within.occ c (omega arith)))
         (cases_lt (c / 64) blocks)
@@ -190,7 +191,7 @@ module _ (r : ℕ) (ps : List ℕ) (pos : 0 < r) where
         (λ (l : s / 64 < blocks).
         let whole : 64 * (s / 64) + s % 64 ≡ s = omega arith in
         ap (λ x. bit_at x (s % 64)) (word_at (s / 64) 1 l (omega arith) ∙ second_word (s / 64))
-        ∙ bits_at (λ i. runend_at r (layout r ps) (64 * (s / 64) + i)) 64 (s % 64) (λ i _. runend_two r (layout r ps) (64 * (s / 64) + i)) (omega arith)
+        ∙ bit_at-bits (λ i. runend_at r (layout r ps) (64 * (s / 64) + i)) 64 (s % 64) (λ i _. runend_two r (layout r ps) (64 * (s / 64) + i)) (omega arith)
         ∙ ap (runend_at r (layout r ps)) whole)
         (λ (l : blocks ≤ s / 64). ap (λ x. bit_at x (s % 64)) (past_word (s / 64) 1 l) ∙ bit_of_none (s % 64) ∙ sym (within.end s (omega arith)))
         (cases_lt (s / 64) blocks)
@@ -206,13 +207,13 @@ module _ (r : ℕ) (ps : List ℕ) (pos : 0 < r) where
     unfolding remainder_in
     field_bit s t l =
         let n : ℕ = s % 64 * r + t in
-        let word : (place_of r s + t) / 64 ≡ word_index r (s / 64) (3 + n / 64) = omega arith in
-        let inner : (place_of r s + t) % 64 ≡ n % 64 = omega arith in
-        bit_field (row_of own) (place_of r s) r t l ∙ bit_row own own_words (place_of r s + t) ∙ ap₂ (λ x y. bit_at (get_or own x 0) y) word inner
+        let word : (remainder_place r s + t) / 64 ≡ word_index r (s / 64) (3 + n / 64) = omega arith in
+        let inner : (remainder_place r s + t) % 64 ≡ n % 64 = omega arith in
+        bit_field (long_number own) (remainder_place r s) r t l ∙ bit_row own own_words (remainder_place r s + t) ∙ ap₂ (λ x y. bit_at (get_or own x 0) y) word inner
 
     field_small : (s : ℕ) → remainder_in r own s < 2 ^ r
     unfolding remainder_in
-    field_small s = field_lt (row_of own) (place_of r s) r
+    field_small s = field_lt (long_number own) (remainder_place r s) r
 
     remainders_own : (s : ℕ) → remainder_in r own s ≡ remainder_at r (layout r ps) s
     remainders_own s =
@@ -223,7 +224,7 @@ module _ (r : ℕ) (ps : List ℕ) (pos : 0 < r) where
         let whole : 64 * (3 + n / 64 - 3) + n % 64 ≡ n = omega arith in
         let slot : 64 * (s / 64) + s % 64 ≡ s = omega arith in
         ap (λ x. bit_at x (n % 64)) (word_at (s / 64) (3 + n / 64) g short ∙ row_word (s / 64) (3 + n / 64) (omega arith))
-        ∙ bits_at (λ i. row_bit r ps (s / 64) (64 * (3 + n / 64 - 3) + i)) 64 (n % 64) (λ i _. row_two (s / 64) (3 + n / 64) i) (omega arith)
+        ∙ bit_at-bits (λ i. row_bit r ps (s / 64) (64 * (3 + n / 64 - 3) + i)) 64 (n % 64) (λ i _. row_two (s / 64) (3 + n / 64) i) (omega arith)
         ∙ ap (row_bit r ps (s / 64)) whole
         ∙ ap₂ (λ x y. bit_at (remainder_at r (layout r ps) (64 * (s / 64) + x)) y) (digits_div (s % 64) l) (digits_mod (s % 64) l)
         ∙ ap (λ x. bit_at (remainder_at r (layout r ps) x) t) slot)

@@ -2,10 +2,11 @@
 use Rattle.std.proofs.Common.{◌≡◌, ℕ, ◌+◌, ◌*◌, ◌/◌, ◌%◌, ◌^◌, ◌<◌, ◌≤◌, cond, eqb, ◌≢◌, ◌⊎◌, List, length, get_or, set, sym, refl, ap, ◌∙◌, inl, inr, ⊎_elim, arith}
 use Rattle.std.proofs.lemmas.List.{get_or-set_same, get_or-set_other}
 use Rattle.std.proofs.lemmas.Bool.{cases_eq, cond_both, cond-true, cond-false, eq-eqb, ne_eqb, eqb-true, eqb-false}
-use Rattle.words.specs.Bits.{bit_at, field}
-use Rattle.words.specs.Row.{row_of}
+use Rattle.std.specs.Int.{bit_at}
+use Rattle.words.specs.Bits.{field}
+use Rattle.words.specs.Row.{long_number}
 use Rattle.words.proofs.Rows.{Words, word_is_field, set_word_other}
-use Rattle.blocks.specs.Views.{word_index, place_of, occupied_bit_in, runend_in, offset_in, remainder_in}
+use Rattle.blocks.specs.Views.{word_index, remainder_place, occupied_bit_in, runend_in, offset_in, remainder_in}
 use Rattle.blocks.specs.Writes.{WroteOccupied, WroteRunend, WroteOffset, WroteRemainder}
 use Rattle.blocks.proofs.Parts.{words_apart, head_apart, slots_apart}
 
@@ -42,7 +43,7 @@ module _ (r b m : ℕ) (ws : List ℕ) (v : ℕ) (small : m < 3) (room : word_in
 
   fields_kept : Words ws → v < 2 ^ 64 → (k : ℕ) → remainder_in r (set ws (word_index r b m) v) k ≡ remainder_in r ws k
   unfolding remainder_in
-  fields_kept h l k = set_word_other ws (word_index r b m) v (place_of r k) r h room l (head_apart r b m k small)
+  fields_kept h l k = set_word_other ws (word_index r b m) v (remainder_place r k) r h room l (head_apart r b m k small)
 
 module _ (r : ℕ) (ws : List ℕ) (v : ℕ) (all : Words ws) (fits : v < 2 ^ 64) where
   pub wrote_occupied : (c u : ℕ) → word_index r (c / 64) 0 < length ws
@@ -79,8 +80,8 @@ module _ (r : ℕ) (ws : List ℕ) (v : ℕ) (all : Words ws) (fits : v < 2 ^ 64
 
 -- a write of the field of slot s
 pub wrote_remainder : (r : ℕ) (ws vs : List ℕ) (s v : ℕ) → Words ws → Words vs
-    → field (row_of vs) (place_of r s) r ≡ v
-    → ((p k : ℕ) → (p + k ≤ place_of r s) ⊎ (place_of r s + r ≤ p) → field (row_of vs) p k ≡ field (row_of ws) p k)
+    → field (long_number vs) (remainder_place r s) r ≡ v
+    → ((p k : ℕ) → (p + k ≤ remainder_place r s) ⊎ (remainder_place r s + r ≤ p) → field (long_number vs) p k ≡ field (long_number ws) p k)
     → WroteRemainder r ws vs s v
 unfolding occupied_bit_in runend_in offset_in remainder_in
 wrote_remainder r ws vs s v hw hv here other =
@@ -92,5 +93,5 @@ wrote_remainder r ws vs s v hw hv here other =
       occupied = λ k. ap (λ x. bit_at x (k % 64)) (head (k / 64) 0 (omega arith));
       runends = λ k. ap (λ x. bit_at x (k % 64)) (head (k / 64) 1 (omega arith));
       offsets = λ k. head k 2 (omega arith);
-      remainders = written (remainder_in r ws) (remainder_in r vs) s v here (λ k ne. other (place_of r k) r (slots_apart r s k ne));
+      remainders = written (remainder_in r ws) (remainder_in r vs) s v here (λ k ne. other (remainder_place r k) r (slots_apart r s k ne));
     }

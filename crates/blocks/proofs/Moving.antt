@@ -1,22 +1,22 @@
 -- What a move needs: which blocks and slots lie within the words, and an entry that was copied.
 use Rattle.std.proofs.Common.{◌≡◌, ℕ, ◌+◌, ◌*◌, ◌/◌, ◌%◌, ◌^◌, ◌<◌, ◌≤◌, Bool, cond, eqb, List, length, get_or, ap, ◌∙◌, ap₂, mul-le-mul_right, mod-eq_of_lt, arith}
 use Rattle.std.proofs.lemmas.Bool.Decides.{nat_tests}
-use Rattle.words.specs.Row.{row_of}
+use Rattle.words.specs.Row.{long_number}
 use Rattle.words.proofs.Fields.{bit_lt, field_lt}
-use Rattle.blocks.specs.Views.{word_index, place_of, runend_in, remainder_in}
+use Rattle.blocks.specs.Views.{word_index, remainder_place, runend_in, remainder_in}
 use Rattle.blocks.specs.Writes.{WroteRunend, WroteRemainder}
-use Rattle.blocks.specs.Moves.{Holds, Within, CopiedEntry}
+use Rattle.blocks.specs.Moves.{BlocksWithin, BlockWithin, CopiedEntry}
 
 -- where the words are that many blocks, the blocks up to there and the block of each slot lie within them
-pub holds_all : (r : ℕ) (ws : List ℕ) (blocks n : ℕ) → length ws ≡ blocks * (r + 3) → n ≤ blocks → Holds r ws n
+pub holds_all : (r : ℕ) (ws : List ℕ) (blocks n : ℕ) → length ws ≡ blocks * (r + 3) → n ≤ blocks → BlocksWithin r ws n
 holds_all r ws blocks n e l = omega (arith, mul-le-mul_right (r + 3) l)
 
-pub within_all : (r : ℕ) (ws : List ℕ) (blocks s : ℕ) → length ws ≡ blocks * (r + 3) → s < 64 * blocks → Within r ws s
+pub within_all : (r : ℕ) (ws : List ℕ) (blocks s : ℕ) → length ws ≡ blocks * (r + 3) → s < 64 * blocks → BlockWithin r ws s
 within_all r ws blocks s e l = holds_all r ws blocks (s / 64 + 1) e (omega arith)
 
 remainder_fits : (r : ℕ) (ws : List ℕ) (s : ℕ) → remainder_in r ws s < 2 ^ r
 unfolding remainder_in
-remainder_fits r ws s = field_lt (row_of ws) (place_of r s) r
+remainder_fits r ws s = field_lt (long_number ws) (remainder_place r s) r
 
 runend_two : (r : ℕ) (ws : List ℕ) (s : ℕ) → runend_in r ws s < 2
 unfolding runend_in

@@ -1,7 +1,7 @@
 -- Words of blocks and fields of remainders lie apart.
 use Rattle.std.proofs.Common.{◌≡◌, ℕ, suc, ◌+◌, ◌*◌, ◌/◌, ◌%◌, ◌<◌, ◌≤◌, ◌≢◌, ◌⊎◌, sym, ap, inl, inr, ⊎_elim, le_trans, le_of_eq, mul-le-mul_right, suc-mul, arith}
 use Rattle.std.proofs.lemmas.Bool.{cases_order}
-use Rattle.blocks.specs.Views.{word_index, runend_place, place_of}
+use Rattle.blocks.specs.Views.{word_index, runend_place, remainder_place}
 
 -- of two pieces of s places each, the earlier ends before the later begins
 pub next : (a b s : ℕ) → a < b → a * s + s ≤ b * s
@@ -19,7 +19,7 @@ words_apart r b d m n lm ln e =
     (cases_order d b)
 
 -- the field of slot k and one of the first three words of block b
-pub head_apart : (r b m k : ℕ) → m < 3 → (place_of r k + r ≤ 64 * word_index r b m) ⊎ (64 * word_index r b m + 64 ≤ place_of r k)
+pub head_apart : (r b m k : ℕ) → m < 3 → (remainder_place r k + r ≤ 64 * word_index r b m) ⊎ (64 * word_index r b m + 64 ≤ remainder_place r k)
 head_apart r b m k l =
     let room = row_room k r in
     ⊎_elim (λ (same : k / 64 ≡ b). inr (omega (arith, ap (λ x. x * (r + 3)) same)))
@@ -47,7 +47,7 @@ runend_next r s t l =
     (λ o. ⊎_elim (λ (g : s / 64 < t / 64). omega (arith, next (s / 64) (t / 64) (r + 3) g)) (λ (g : t / 64 < s / 64). absurd (omega arith)) o)
     (cases_order (s / 64) (t / 64))
 
-pub place_next : (r s t : ℕ) → s < t → place_of r s + r ≤ place_of r t
+pub place_next : (r s t : ℕ) → s < t → remainder_place r s + r ≤ remainder_place r t
 place_next r s t l =
     ⊎_elim
     (λ (same : s / 64 ≡ t / 64).
@@ -60,13 +60,13 @@ place_next r s t l =
 pub runend_suc : (r k : ℕ) → k / 64 ≡ suc k / 64 → runend_place r (suc k) ≡ runend_place r k + 1
 runend_suc r k same = omega (arith, ap (λ x. x * (r + 3)) same)
 
-pub place_suc : (r k : ℕ) → k / 64 ≡ suc k / 64 → place_of r (suc k) ≡ place_of r k + r
+pub place_suc : (r k : ℕ) → k / 64 ≡ suc k / 64 → remainder_place r (suc k) ≡ remainder_place r k + r
 place_suc r k same =
     let inner : suc k % 64 ≡ suc (k % 64) = omega arith in
     omega (arith, ap (λ x. x * (r + 3)) same, ap (λ x. x * r) inner, suc-mul (k % 64) r)
 
 -- the fields of two slots
-pub slots_apart : (r s k : ℕ) → k ≢ s → (place_of r k + r ≤ place_of r s) ⊎ (place_of r s + r ≤ place_of r k)
+pub slots_apart : (r s k : ℕ) → k ≢ s → (remainder_place r k + r ≤ remainder_place r s) ⊎ (remainder_place r s + r ≤ remainder_place r k)
 slots_apart r s k ne =
     ⊎_elim (λ (same : k ≡ s). absurd (ne same))
     (λ o. ⊎_elim (λ g. inl (place_next r k s g)) (λ g. inr (place_next r s k g)) o)
@@ -76,7 +76,7 @@ slots_apart r s k ne =
 pub head_inside : (r b blocks m : ℕ) → b < blocks → m < 3 → word_index r b m < blocks * (r + 3)
 head_inside r b blocks m l g = omega (arith, next b blocks (r + 3) l)
 
-pub slot_inside : (r s blocks : ℕ) → s < 64 * blocks → place_of r s + r ≤ 64 * (blocks * (r + 3))
+pub slot_inside : (r s blocks : ℕ) → s < 64 * blocks → remainder_place r s + r ≤ 64 * (blocks * (r + 3))
 slot_inside r s blocks l =
     let b : s / 64 < blocks = omega arith in
     omega (arith, next (s / 64) blocks (r + 3) b, row_room s r)

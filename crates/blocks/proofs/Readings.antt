@@ -4,15 +4,16 @@ use mathlib.Core.Path.{fun_ext}
 use native.Mathlib.Nat.{zero-div, zero-mod}
 use Rattle.std.proofs.lemmas.List.{get_or_past, get_or-replicate, length-replicate}
 use Rattle.std.proofs.lemmas.Bool.{cases_lt}
-use Rattle.words.specs.Bits.{bit_at, field}
-use Rattle.words.specs.Row.{row_of}
+use Rattle.std.specs.Int.{bit_at}
+use Rattle.words.specs.Bits.{field}
+use Rattle.words.specs.Row.{long_number}
 use Rattle.layout.specs.Rule.{Sorted, Roomy, laid, occupied_at, remainder_at}
 use Rattle.layout.specs.Laws.{read_from}
 use Rattle.layout.proofs.Bounds.{empty_law}
 use Rattle.layout.proofs.Passes.{quotients_below}
 use Rattle.layout.proofs.ReadBack.{read_law}
 use Rattle.blocks.proofs.Forms.{bit_of_none}
-use Rattle.blocks.specs.Views.{word_index, place_of, occupied_bit_in, runend_in, offset_in, remainder_in, Shows, read_entries}
+use Rattle.blocks.specs.Views.{word_index, remainder_place, occupied_bit_in, runend_in, offset_in, remainder_in, Shows, read_entries}
 
 pub read_back : (r slots : ℕ) (ws ps : List ℕ) → Sorted ps → Roomy slots r ps → Shows r ws ps → read_entries r slots ws ≡ ps
 read_back r slots ws ps s room shows =
@@ -23,8 +24,8 @@ read_back r slots ws ps s room shows =
 
 -- ---- words that are all 0 show no fingerprint
 
-row_none : (n : ℕ) → row_of (replicate n 0) ≡ 0
-unfolding row_of
+row_none : (n : ℕ) → long_number (replicate n 0) ≡ 0
+unfolding long_number
 row_none zero = refl
 row_none (suc n) = omega (arith, row_none n)
 
@@ -40,5 +41,5 @@ zeros_show r n = record {
   runends = λ s. ap (λ x. bit_at x (s % 64)) (word_none n (word_index r (s / 64) 1)) ∙ bit_of_none (s % 64) ∙ sym (empty_law 0 r s).4;
   offsets = λ b. word_none n (word_index r b 2) ∙ sym (empty_law 0 r (64 * b)).5;
   remainders = λ s.
-      ap (λ x. field x (place_of r s) r) (row_none n) ∙ ap (λ x. x % 2 ^ r) (zero-div (2 ^ place_of r s)) ∙ zero-mod (2 ^ r) ∙ sym (empty_law 0 r s).3;
+      ap (λ x. field x (remainder_place r s) r) (row_none n) ∙ ap (λ x. x % 2 ^ r) (zero-div (2 ^ remainder_place r s)) ∙ zero-mod (2 ^ r) ∙ sym (empty_law 0 r s).3;
 }

@@ -1,7 +1,8 @@
 -- The k-th one of a block's runends from a place on is the k-th runend from there on.
 use Rattle.std.proofs.Common.{◌≡◌, ℕ, suc, ◌+◌, ◌-◌, ◌*◌, ◌<◌, ◌≤◌, min, List, get_or, Some, ap, ⊎_elim, arith}
 use Rattle.std.proofs.lemmas.Bool.{cases_lt}
-use Rattle.words.specs.Bits.{bit_at, ones_under, Selected}
+use Rattle.std.specs.Int.{bit_at}
+use Rattle.words.specs.Bits.{ones_under, Selected}
 use Rattle.layout.specs.Load.{tally}
 use Rattle.layout.proofs.Ranks.{tally_mono}
 use Rattle.blocks.specs.Views.{word_index, runend_in}

@@ -2,7 +2,8 @@
 use Rattle.std.proofs.Common.{◌≡◌, ℕ, zero, suc, ◌+◌, ◌-◌, ◌*◌, ◌/◌, ◌%◌, ◌<◌, ◌≤◌, List, length, get_or, refl, ap, ◌∙◌, ap₂, ⊎_elim, mul-le-mul_right, arith}
 use Rattle.std.proofs.lemmas.List.{get_or_past}
 use Rattle.std.proofs.lemmas.Bool.{cases_lt}
-use Rattle.words.specs.Bits.{bit_at, ones_under}
+use Rattle.std.specs.Int.{bit_at}
+use Rattle.words.specs.Bits.{ones_under}
 use Rattle.words.proofs.Fields.{bit_lt}
 use Rattle.layout.specs.Load.{tally}
 use Rattle.layout.proofs.Ranks.{tally_step, tally_mono}

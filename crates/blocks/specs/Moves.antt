@@ -3,21 +3,21 @@ use Rattle.std.specs.Prelude.{◌≡◌, ℕ, suc, ◌+◌, ◌-◌, ◌*◌, �
 use Rattle.blocks.specs.Views.{occupied_bit_in, runend_in, offset_in, remainder_in}
 
 -- the first n blocks, of r + 3 words each, lie wholly within the words
-abbrev pub Holds : ℕ → List ℕ → ℕ → Type 0
-Holds r ws n = n * (r + 3) ≤ length ws
+abbrev pub BlocksWithin : ℕ → List ℕ → ℕ → Type 0
+BlocksWithin r ws n = n * (r + 3) ≤ length ws
 
 -- the whole block of slot s lies within the words
-abbrev pub Within : ℕ → List ℕ → ℕ → Type 0
-Within r ws s = Holds r ws (s / 64 + 1)
+abbrev pub BlockWithin : ℕ → List ℕ → ℕ → Type 0
+BlockWithin r ws s = BlocksWithin r ws (s / 64 + 1)
 
 -- g has what f has at the places `from` to `to - 1`, one place up, and elsewhere what f has
-pub record ShiftedUp (f g : ℕ → ℕ) (from to : ℕ) : Type 0 where
+pub record OnePlaceUp (f g : ℕ → ℕ) (from to : ℕ) : Type 0 where
   pub moved : (k : ℕ) → from ≤ k → k < to → g (suc k) ≡ f k
   pub below : (k : ℕ) → k ≤ from → g k ≡ f k
   pub above : (k : ℕ) → to < k → g k ≡ f k
 
 -- g has what f has at the places `from + 1` to `to`, one place down, and elsewhere what f has
-pub record ShiftedDown (f g : ℕ → ℕ) (from to : ℕ) : Type 0 where
+pub record OnePlaceDown (f g : ℕ → ℕ) (from to : ℕ) : Type 0 where
   pub moved : (k : ℕ) → from ≤ k → k < to → g k ≡ f (suc k)
   pub below : (k : ℕ) → k < from → g k ≡ f k
   pub above : (k : ℕ) → to ≤ k → g k ≡ f k
@@ -25,16 +25,16 @@ pub record ShiftedDown (f g : ℕ → ℕ) (from to : ℕ) : Type 0 where
 -- the entries of the slots `from` to `to - 1` are one slot up now
 pub record MovedUp (r : ℕ) (ws vs : List ℕ) (from to : ℕ) : Type 0 where
   pub occupied : (k : ℕ) → occupied_bit_in r vs k ≡ occupied_bit_in r ws k
-  pub runends : ShiftedUp (runend_in r ws) (runend_in r vs) from to
+  pub runends : OnePlaceUp (runend_in r ws) (runend_in r vs) from to
   pub offsets : (k : ℕ) → offset_in r vs k ≡ offset_in r ws k
-  pub remainders : ShiftedUp (remainder_in r ws) (remainder_in r vs) from to
+  pub remainders : OnePlaceUp (remainder_in r ws) (remainder_in r vs) from to
 
 -- the entries of the slots `from + 1` to `to` are one slot down now
 pub record MovedDown (r : ℕ) (ws vs : List ℕ) (from to : ℕ) : Type 0 where
   pub occupied : (k : ℕ) → occupied_bit_in r vs k ≡ occupied_bit_in r ws k
-  pub runends : ShiftedDown (runend_in r ws) (runend_in r vs) from to
+  pub runends : OnePlaceDown (runend_in r ws) (runend_in r vs) from to
   pub offsets : (k : ℕ) → offset_in r vs k ≡ offset_in r ws k
-  pub remainders : ShiftedDown (remainder_in r ws) (remainder_in r vs) from to
+  pub remainders : OnePlaceDown (remainder_in r ws) (remainder_in r vs) from to
 
 -- the entry of slot j stands in slot i too now
 pub record CopiedEntry (r : ℕ) (ws vs : List ℕ) (j i : ℕ) : Type 0 where

@@ -1,7 +1,8 @@
 -- What the words of a filter show at each quotient, slot and block. Past the last word all is 0.
 use Rattle.std.specs.Prelude.{◌≡◌, ℕ, ◌+◌, ◌*◌, ◌/◌, ◌%◌, List, slice_index}
-use Rattle.words.specs.Bits.{bit_at, field}
-use Rattle.words.specs.Row.{row_of}
+use Rattle.std.specs.Int.{bit_at}
+use Rattle.words.specs.Bits.{field}
+use Rattle.words.specs.Row.{long_number}
 use Rattle.layout.specs.Rule.{laid, occupied_at, runend_at, offset_at, remainder_at}
 use Rattle.layout.specs.Laws.{read_from}
 
@@ -30,12 +31,12 @@ abbrev pub runend_place : ℕ → ℕ → ℕ
 runend_place r s = 64 * word_index r (s / 64) 1 + s % 64
 
 -- the bit at which the remainder of slot s begins, of all bits of the words
-abbrev pub place_of : ℕ → ℕ → ℕ
-place_of r s = 64 * word_index r (s / 64) 3 + s % 64 * r
+abbrev pub remainder_place : ℕ → ℕ → ℕ
+remainder_place r s = 64 * word_index r (s / 64) 3 + s % 64 * r
 
 -- the remainder in slot s: the r bits from there on
 unfoldable pub remainder_in : ℕ → List ℕ → ℕ → ℕ
-remainder_in r ws s = field (row_of ws) (place_of r s) r
+remainder_in r ws s = field (long_number ws) (remainder_place r s) r
 
 -- the words show the layout of fingerprints in rising order
 pub record Shows (r : ℕ) (ws ps : List ℕ) : Type 0 where

@@ -1,6 +1,6 @@
 -- What one write changes, and what it leaves: vs are the words after it.
 use Rattle.std.specs.Prelude.{◌≡◌, ℕ, ◌^◌, ◌<◌, cond, List, ◌==◌, slice_index, slice_set}
-use Rattle.words.specs.Bits.{bit_at}
+use Rattle.std.specs.Int.{bit_at}
 use Rattle.blocks.specs.Views.{occupied_bit_in, runend_in, offset_in, remainder_in}
 
 -- bit i of the word at `at` is v now, and all else is as it was

@@ -1,6 +1,6 @@
 //! Entries moved by one slot over a stretch of slots, and offsets changed by one over a stretch of blocks.
 ghost use Rattle.std.specs.Prelude.{◌≡◌, ℕ, ◌+◌, ◌*◌, ◌/◌, ◌^◌, ◌<◌, ◌≤◌, length, nat_le};
-ghost use Rattle.blocks.specs.Moves.{Holds, Within, MovedUp, MovedDown, CopiedEntry, ChangedOffsets, raised, lowered};
+ghost use Rattle.blocks.specs.Moves.{BlocksWithin, BlockWithin, MovedUp, MovedDown, CopiedEntry, ChangedOffsets, raised, lowered};
 
 use crate::Slot;
 use crate::places::{place_of, runend_place};
@@ -17,7 +17,7 @@ fn holds(words: &[u64], width: Width, n: u32) -> bool
 
 /// Writes the entry of slot `j`, its remainder and its runend bit, into slot `i`.
 fn copy_entry(words: &mut [u64], width: Width, j: Slot, i: Slot)
-    requires { Within width.bits words.old i.0 }
+    requires { BlockWithin width.bits words.old i.0 }
     ensures { CopiedEntry width.bits words.old words.new j.0 i.0 }
 {
     let from = Blocks { width, words };
@@ -34,7 +34,7 @@ const BIT: Width = Width { bits: 1 };
 fn shift_up_in_block(words: &mut [u64], width: Width, from: Slot, to: Slot)
     requires order { from.0 ≤ to.0 }
     requires block { from.0 / 64 ≡ to.0 / 64 }
-    requires room { Within width.bits words.old to.0 }
+    requires room { BlockWithin width.bits words.old to.0 }
     ensures { MovedUp width.bits words.old words.new from.0 to.0 }
 {
     move_bits_up(
@@ -54,7 +54,7 @@ fn shift_up_in_block(words: &mut [u64], width: Width, from: Slot, to: Slot)
 /// Moves the entries up, block by block, the highest first: the last entry of a block goes to the first slot of the next.
 fn shift_up(words: &mut [u64], width: Width, from: Slot, to: Slot)
     requires order { from.0 ≤ to.0 }
-    requires room { Within width.bits words.old to.0 }
+    requires room { BlockWithin width.bits words.old to.0 }
     ensures { MovedUp width.bits words.old words.new from.0 to.0 }
 {
     let mut end = to.0;
@@ -74,7 +74,7 @@ fn shift_up(words: &mut [u64], width: Width, from: Slot, to: Slot)
 fn shift_down_in_block(words: &mut [u64], width: Width, from: Slot, to: Slot)
     requires order { from.0 ≤ to.0 }
     requires block { from.0 / 64 ≡ to.0 / 64 }
-    requires room { Within width.bits words.old to.0 }
+    requires room { BlockWithin width.bits words.old to.0 }
     ensures { MovedDown width.bits words.old words.new from.0 to.0 }
 {
     move_bits_down(
@@ -94,7 +94,7 @@ fn shift_down_in_block(words: &mut [u64], width: Width, from: Slot, to: Slot)
 /// Moves the entries down, block by block, the lowest first: the first entry of a block goes to the last slot of the one before.
 fn shift_down(words: &mut [u64], width: Width, from: Slot, to: Slot)
     requires order { from.0 ≤ to.0 }
-    requires room { Within width.bits words.old to.0 }
+    requires room { BlockWithin width.bits words.old to.0 }
     ensures { MovedDown width.bits words.old words.new from.0 to.0 }
 {
     let mut start = from.0;
@@ -111,7 +111,7 @@ fn shift_down(words: &mut [u64], width: Width, from: Slot, to: Slot)
 /// Changes the offsets, block by block.
 fn change_each<F: Fn(u64) -> u64>(words: &mut [u64], width: Width, from: u32, to: u32, change: F)
     ghost by: { ℕ → ℕ }
-    requires room { Holds width.bits words.old to }
+    requires room { BlocksWithin width.bits words.old to }
     requires can { F.IsAlwaysCallable change }
     requires means { (v w : ℕ) → v < 2 ^ 64 → F.post change v w → w ≡ by v }
     ensures { ChangedOffsets by width.bits words.old words.new from to }
@@ -127,8 +127,9 @@ fn change_each<F: Fn(u64) -> u64>(words: &mut [u64], width: Width, from: u32, to
 /// Moves the entries of the slots `from` to `to - 1` one slot up; slot `from` keeps its own.
 /// Nothing happens where `to` is below `from`, or where its block reaches past the words.
 pub fn move_up(words: &mut [u64], width: Width, from: Slot, to: Slot)
-    ensures inside { from.0 ≤ to.0 → Within width.bits words.old to.0 → MovedUp width.bits words.old words.new from.0 to.0 }
-    ensures past { (Within width.bits words.old to.0 → ⊥) → words.new ≡ words.old }
+    ensures inside { from.0 ≤ to.0 → BlockWithin width.bits words.old to.0
+        → MovedUp width.bits words.old words.new from.0 to.0 }
+    ensures past { (BlockWithin width.bits words.old to.0 → ⊥) → words.new ≡ words.old }
     ensures none { to.0 < from.0 → words.new ≡ words.old }
 {
     if from.0 <= to.0 && holds(words, width, to.0 / 64 + 1) {
@@ -139,8 +140,9 @@ pub fn move_up(words: &mut [u64], width: Width, from: Slot, to: Slot)
 /// Moves the entries of the slots `from + 1` to `to` one slot down; slot `to` keeps its own.
 /// Nothing happens where `to` is below `from`, or where its block reaches past the words.
 pub fn move_down(words: &mut [u64], width: Width, from: Slot, to: Slot)
-    ensures inside { from.0 ≤ to.0 → Within width.bits words.old to.0 → MovedDown width.bits words.old words.new from.0 to.0 }
-    ensures past { (Within width.bits words.old to.0 → ⊥) → words.new ≡ words.old }
+    ensures inside { from.0 ≤ to.0 → BlockWithin width.bits words.old to.0
+        → MovedDown width.bits words.old words.new from.0 to.0 }
+    ensures past { (BlockWithin width.bits words.old to.0 → ⊥) → words.new ≡ words.old }
     ensures none { to.0 < from.0 → words.new ≡ words.old }
 {
     if from.0 <= to.0 && holds(words, width, to.0 / 64 + 1) {
@@ -151,8 +153,9 @@ pub fn move_down(words: &mut [u64], width: Width, from: Slot, to: Slot)
 /// Raises the offsets of the blocks `from` to `to - 1` by one; the largest stay as they are.
 /// Nothing happens where the blocks below `to` reach past the words.
 pub fn raise_offsets(words: &mut [u64], width: Width, from: u32, to: u32)
-    ensures inside { Holds width.bits words.old to → ChangedOffsets raised width.bits words.old words.new from to }
-    ensures past { (Holds width.bits words.old to → ⊥) → words.new ≡ words.old }
+    ensures inside { BlocksWithin width.bits words.old to
+        → ChangedOffsets raised width.bits words.old words.new from to }
+    ensures past { (BlocksWithin width.bits words.old to → ⊥) → words.new ≡ words.old }
 {
     if holds(words, width, to) {
         change_each(words, width, from, to, |v| v.saturating_add(1));
@@ -162,8 +165,9 @@ pub fn raise_offsets(words: &mut [u64], width: Width, from: u32, to: u32)
 /// Lowers the offsets of the blocks `from` to `to - 1` by one; those that are 0 stay so.
 /// Nothing happens where the blocks below `to` reach past the words.
 pub fn lower_offsets(words: &mut [u64], width: Width, from: u32, to: u32)
-    ensures inside { Holds width.bits words.old to → ChangedOffsets lowered width.bits words.old words.new from to }
-    ensures past { (Holds width.bits words.old to → ⊥) → words.new ≡ words.old }
+    ensures inside { BlocksWithin width.bits words.old to
+        → ChangedOffsets lowered width.bits words.old words.new from to }
+    ensures past { (BlocksWithin width.bits words.old to → ⊥) → words.new ≡ words.old }
 {
     if holds(words, width, to) {
         change_each(words, width, from, to, |v| v.saturating_sub(1));

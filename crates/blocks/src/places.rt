@@ -1,6 +1,6 @@
 //! Where things stand in the words.
 ghost use Rattle.std.specs.Prelude.{◌≡◌};
-ghost use Rattle.blocks.specs.Views.{word_index, runend_place, place_of};
+ghost use Rattle.blocks.specs.Views.{word_index, runend_place, remainder_place};
 ghost use Rattle.blocks.specs.Parts.{place_in_block};
 
 use crate::Slot;
@@ -45,7 +45,7 @@ pub(crate) fn runend_place(width: Width, s: Slot) -> usize
 
 /// The bit at which the remainder of slot `s` begins, of all bits of the words.
 pub(crate) fn place_of(width: Width, s: Slot) -> usize
-    ensures { result ≡ place_of width.bits s.0 }
+    ensures { result ≡ remainder_place width.bits s.0 }
 {
     64 * word_of(width, s.0 / 64, Part::Remainders) + s.0 as usize % 64 * width.bits as usize
 }

@@ -1,6 +1,6 @@
 //! Single bits, offsets and remainders written.
 ghost use Rattle.std.specs.Prelude.{◌≡◌, ℕ, ◌+◌, ◌*◌, ◌/◌, ◌%◌, ◌^◌, ◌<◌, ◌≤◌, length, if◌then◌else◌, slice_set};
-ghost use Rattle.blocks.specs.Views.{word_index, place_of};
+ghost use Rattle.blocks.specs.Views.{word_index, remainder_place};
 ghost use Rattle.blocks.specs.Writes.{WroteOccupied, WroteRunend, WroteOffset, WroteRemainder, WithBit};
 
 use crate::places::{Part, place_of, word_of};
@@ -49,8 +49,10 @@ pub fn set_offset(words: &mut [u64], width: Width, b: u32, v: u64)
 
 /// Writes the low bits of `v` as the remainder in slot `s`; past the last word nothing happens.
 pub fn set_remainder(words: &mut [u64], width: Width, s: Slot, v: u32)
-    ensures inside { place_of width.bits s.0 + width.bits ≤ 64 * length words.old → WroteRemainder width.bits words.old words.new s.0 (v % 2 ^ width.bits) }
-    ensures past { 64 * length words.old < place_of width.bits s.0 + width.bits → words.new ≡ words.old }
+    ensures inside { remainder_place width.bits s.0 + width.bits ≤ 64 * length words.old
+        → WroteRemainder width.bits words.old words.new s.0 (v % 2 ^ width.bits) }
+    ensures past { 64 * length words.old < remainder_place width.bits s.0 + width.bits
+        → words.new ≡ words.old }
 {
     set_field(words, place_of(width, s), width, v);
 }

@@ -3,7 +3,7 @@ use Rattle.std.proofs.Common.{◌≡◌, ℕ, List, [], ◌∷◌, ◌++◌, dro
 use lib.ListN.{length-replicate}
 use Rattle.std.proofs.lemmas.List.{take-append-drop}
 use Rattle.std.proofs.lemmas.Slice.{drop-append-drop}
-use Rattle.layout.specs.Rule.{sorted, insert, remove}
+use Rattle.layout.specs.Rule.{sorted, with_one, without_one}
 use Rattle.layout.specs.Format.{filter_words}
 use Rattle.layout.proofs.Sorts.{sorted_same_counts}
 use Rattle.layout.proofs.Formats.{words_any_order}
@@ -64,7 +64,7 @@ pub entries_alike : (f g : Filter) (ps : List ℕ) → Holds f g ps → Alike (f
 entries_alike f g ps d = subst (λ l. Alike l ps) (sym d.entries) (alike_sorted ps)
 
 -- one entry more
-pub holds_more : (f g h : Filter) (p : ℕ) (ps qs : List ℕ) → Holds f g ps → SameFilter g h → fingerprints h ≡ insert p (fingerprints g)
+pub holds_more : (f g h : Filter) (p : ℕ) (ps qs : List ℕ) → Holds f g ps → SameFilter g h → fingerprints h ≡ with_one p (fingerprints g)
     → words_of h ≡ laid_over g.plan.r g.blocks (p ∷ fingerprints g) (words_of g) → Alike (p ∷ ps) qs → Holds f h qs
 holds_more f g h p ps qs d s e w a =
     record {
@@ -76,14 +76,14 @@ holds_more f g h p ps qs d s e w a =
     }
 
 -- one entry less
-pub holds_less : (f g h : Filter) (p : ℕ) (ps qs : List ℕ) → Holds f g ps → SameFilter g h → fingerprints h ≡ remove p (fingerprints g)
-    → words_of h ≡ laid_over g.plan.r g.blocks (remove p (fingerprints g)) (words_of g) → Alike (p ∷ qs) ps → Holds f h qs
+pub holds_less : (f g h : Filter) (p : ℕ) (ps qs : List ℕ) → Holds f g ps → SameFilter g h → fingerprints h ≡ without_one p (fingerprints g)
+    → words_of h ≡ laid_over g.plan.r g.blocks (without_one p (fingerprints g)) (words_of g) → Alike (p ∷ qs) ps → Holds f h qs
 holds_less f g h p ps qs d s e w a =
-    let es : remove p (fingerprints g) ≡ sorted qs = remove_entries p (fingerprints g) ps qs d.entries a in
+    let es : without_one p (fingerprints g) ≡ sorted qs = remove_entries p (fingerprints g) ps qs d.entries a in
     record {
       same = same_then f g h d.same s;
       entries = e ∙ es;
-      words = over f g h ps (remove p (fingerprints g)) d w
+      words = over f g h ps (without_one p (fingerprints g)) d w
           ∙ ap (λ l. l ++ drop (size_of f.plan.r f.blocks) (words_of f)) (ap (filter_words f.plan.r f.blocks) es ∙ words_any_order f.plan.r f.blocks qs);
     }
 

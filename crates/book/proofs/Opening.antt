@@ -2,7 +2,7 @@
 use Rattle.std.proofs.Common.{◌≡◌, ℕ, ◌+◌, ◌*◌, ◌<◌, ◌≤◌, List, [], ◌∷◌, ◌++◌, map, length, get_or, take, drop, Some, None, Ok, Option, sym, refl, ap, ◌∙◌, subst, arith, take_all}
 use Rattle.std.proofs.lemmas.List.{append-nil}
 use Rattle.layout.specs.Rule.{Roomy}
-use Rattle.layout.specs.Laws.{count}
+use Rattle.layout.specs.Laws.{copies_of}
 use Rattle.layout.proofs.Sorts.{count_here}
 use Rattle.layout.proofs.Bounds.{empty_law}
 use Rattle.filter.specs.Cuts.{cut_to}
@@ -52,8 +52,8 @@ module _ {K V : Type 0} (number : K → ℕ) (f : Filter) (rows : List (Option (
   module _ (g : Filter) (i : ℕ) (r : Record K V) (l : i < length rows) (e : Some r ≡ get_or rows i None) (d : Filled g i) (p : ℕ) (is : p ≡ cut_to g.plan (number r.key)) where
     more : Alike (p ∷ front i) (front (i + 1))
     more x =
-        ap (λ q. count x (q ∷ front i)) (is ∙ ap (λ (plan : Plan). cut_to plan (number r.key)) d.holds.same.plan)
-        ∙ count_last (mark r.key) (front i) x ∙ ap (count x) (sym (numbers_record mark rows i r l e))
+        ap (λ q. copies_of x (q ∷ front i)) (is ∙ ap (λ (plan : Plan). cut_to plan (number r.key)) d.holds.same.plan)
+        ∙ count_last (mark r.key) (front i) x ∙ ap (copies_of x) (sym (numbers_record mark rows i r l e))
 
     counted : Alike (p ∷ fingerprints g) (front (i + 1))
     counted x = alike_cons p (fingerprints g) (front i) (entries_alike f g (front i) d.holds) x ∙ more x

@@ -3,7 +3,7 @@ use Rattle.std.proofs.Common.{◌≡◌, ℕ, ◌*◌, Bool, true, false, List, 
 use Rattle.std.proofs.lemmas.Bool.{cond-true, cond-false, cases_Bool}
 use Rattle.kinds.specs.Keys.{same_key}
 use Rattle.layout.specs.Rule.{sorted}
-use Rattle.layout.specs.Laws.{count}
+use Rattle.layout.specs.Laws.{copies_of}
 use Rattle.filter.specs.Cuts.{cut_to}
 use Rattle.filter.specs.declared.plan.Plan.{Plan}
 use Rattle.filter.specs.Meaning.{size_of}
@@ -65,7 +65,7 @@ module _ {K V : Type 0} (bytes : K → List ℕ) (apart : (a b : K) → bytes a 
   -- a book that was opened over filter f and table m, and now has filter h and table x
   module _ (f : Filter) (m : Meaning K V) (h g : Filter) (x y : Meaning K V) (own : Apart x.rows) (own' : Apart y.rows) (holds : Holds f h (fingerprints_of number f x)) where
     mark : (k : K) (ps qs : List ℕ) → Alike (cut_to f.plan (number k) ∷ ps) qs → Alike (cut_to h.plan (number k) ∷ ps) qs
-    mark k ps qs a p = ap (λ (plan : Plan). count p (cut_to plan (number k) ∷ ps)) holds.same.plan ∙ a p
+    mark k ps qs a p = ap (λ (plan : Plan). copies_of p (cut_to plan (number k) ∷ ps)) holds.same.plan ∙ a p
 
     still : g ≡ h → y ≡ x → Holds f g (fingerprints_of number f y)
     still e d =

@@ -1,13 +1,13 @@
 -- What the calls of a book make of its filter and its table. Below, f and m are the filter and the table's meaning before a call, g and n after it;
 -- number gives each key its 64-bit number. The filter need not belong to the table.
 use Rattle.std.specs.Prelude.{◌≡◌, ℕ, List, [], ◌∷◌, map, Some, None, Ok, Err, Result}
-use Rattle.layout.specs.Rule.{sorted, insert, remove, Roomy}
+use Rattle.layout.specs.Rule.{sorted, with_one, without_one, Roomy}
 use Rattle.filter.specs.Cuts.{cut_to}
 use Rattle.filter.specs.Filters.{Crowds, words_of, fingerprints, slots_of, laid_over, cleared_over}
 use Rattle.filter.specs.declared.fault.FilterFault.TheVariants.{NoSlot}
 use Rattle.filter.specs.declared.filter.Filter.{Filter}
 use Rattle.tables.specs.Rows.{keys_of}
-use Rattle.tables.specs.Meaning.{Meaning, value_in, held_in, Revalued}
+use Rattle.tables.specs.Meaning.{Meaning, value_in, key_count, Revalued}
 use Rattle.history.specs.Rules.{Terms, Holdings, Answer}
 use Rattle.history.specs.declared.operation.Operation.{Operation}
 use Rattle.history.specs.declared.operation.Operation.TheVariants.{Put, Drop, Find}
@@ -30,7 +30,8 @@ terms_of bytes number f m = record {
 
 -- what a filter and a table hold
 abbrev pub held_by : {K V : Type 0} → (K → List ℕ) → Filter → Meaning K V → Holdings K V
-held_by bytes f m = record { value = value_in bytes m; held = held_in m; entries = fingerprints f }
+held_by bytes f m =
+    record { value = value_in bytes m; held = key_count m; entries = fingerprints f }
 
 -- the fingerprints of the keys that a table holds, one for each
 abbrev pub fingerprints_of : {K V : Type 0} → (K → ℕ) → Filter → Meaning K V → List ℕ
@@ -39,7 +40,7 @@ fingerprints_of number f m = map (λ k. cut_to f.plan (number k)) (keys_of m.row
 -- A new key brings one more entry and its record; a held one gets the value, and the filter stays; a refusal changes neither.
 abbrev pub PutDone : {K V : Type 0} → (K → List ℕ) → (K → ℕ) → Filter → Filter → Meaning K V → Meaning K V → K → V → Result Stored BookFault → Type 0
 PutDone bytes number f g m n k v (Ok Kept) =
-    (fingerprints g ≡ insert (cut_to f.plan (number k)) (fingerprints f))
+    (fingerprints g ≡ with_one (cut_to f.plan (number k)) (fingerprints f))
     × (words_of g ≡ laid_over f.plan.r f.blocks (cut_to f.plan (number k) ∷ fingerprints f) (words_of f))
     × Revalued bytes m n k (Some v)
 PutDone bytes number f g m n k v (Ok Changed) = (g ≡ f) × Revalued bytes m n k (Some v)
@@ -48,8 +49,8 @@ PutDone bytes number f g m n k v (Err e) = (g ≡ f) × (n ≡ m)
 -- One entry and the record go; a refusal changes neither.
 abbrev pub DropDone : {K V : Type 0} → (K → List ℕ) → (K → ℕ) → Filter → Filter → Meaning K V → Meaning K V → K → Result (Unit {0}) BookFault → Type 0
 DropDone bytes number f g m n k (Ok done) =
-    (fingerprints g ≡ remove (cut_to f.plan (number k)) (fingerprints f))
-    × (words_of g ≡ laid_over f.plan.r f.blocks (remove (cut_to f.plan (number k)) (fingerprints f)) (words_of f))
+    (fingerprints g ≡ without_one (cut_to f.plan (number k)) (fingerprints f))
+    × (words_of g ≡ laid_over f.plan.r f.blocks (without_one (cut_to f.plan (number k)) (fingerprints f)) (words_of f))
     × Revalued bytes m n k None
 DropDone bytes number f g m n k (Err e) = (g ≡ f) × (n ≡ m)
 

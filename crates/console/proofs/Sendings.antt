@@ -4,7 +4,7 @@ use Rattle.std.proofs.Math.Seq.{take-append_seam}
 use Rattle.std.proofs.lemmas.List.{take-append-drop}
 use Rattle.std.specs.Io.KnownBytes.{Keeps, Appends}
 use Rattle.console.specs.declared.fault.Fault.{Fault}
-use Rattle.console.specs.Sending.{Begins, Sent}
+use Rattle.console.specs.Sending.{AppendsBeginning, Sent}
 
 pub appends_none : (o : Option (List ℕ)) → Appends o o []
 appends_none None = tt
@@ -25,19 +25,19 @@ appends_kept (Some xs) (Some ys) None a s k = absurd k
 appends_kept (Some xs) (Some ys) (Some zs) a s k = k ∙ s
 
 -- what is written is a beginning of any text that goes on with it
-pub begins_with : (o p : Option (List ℕ)) (a b text : List ℕ) → Appends o p a → text ≡ a ++ b → Begins o p text
+pub begins_with : (o p : Option (List ℕ)) (a b text : List ℕ) → Appends o p a → text ≡ a ++ b → AppendsBeginning o p text
 begins_with o p a b text s e = (length a, subst (λ xs. Appends o p xs) (sym (ap (take (length a)) e ∙ take-append_seam a b)) s)
 
 -- a whole text is a beginning of itself
-pub begins_whole : (o p : Option (List ℕ)) (text : List ℕ) → Appends o p text → Begins o p text
+pub begins_whole : (o p : Option (List ℕ)) (text : List ℕ) → Appends o p text → AppendsBeginning o p text
 begins_whole o p text s = begins_with o p text [] text s (sym (append-nil text))
 
 -- a beginning of a text is one of any that goes on with it
-pub begins_longer : (o p : Option (List ℕ)) (a b : List ℕ) → Begins o p a → Begins o p (a ++ b)
+pub begins_longer : (o p : Option (List ℕ)) (a b : List ℕ) → AppendsBeginning o p a → AppendsBeginning o p (a ++ b)
 begins_longer o p a b (n, s) = begins_with o p (take n a) (drop n a ++ b) (a ++ b) s (ap (λ xs. xs ++ b) (sym (take-append-drop n a)) ∙ append_assoc (take n a) (drop n a) b)
 
 -- a text, and then a beginning of another
-pub begins_after : (o p q : Option (List ℕ)) (a b : List ℕ) → Appends o p a → Begins p q b → Begins o q (a ++ b)
+pub begins_after : (o p q : Option (List ℕ)) (a b : List ℕ) → Appends o p a → AppendsBeginning p q b → AppendsBeginning o q (a ++ b)
 begins_after o p q a b s (n, t) = begins_with o q (a ++ take n b) (drop n b) (a ++ b) (appends_more o p q a (take n b) s t)
     (ap (λ xs. a ++ xs) (sym (take-append-drop n b)) ∙ sym (append_assoc a (take n b) (drop n b)))
 
@@ -60,7 +60,7 @@ written_more o p q text rest n (part, e, s) t = (part ++ take n rest, e ∙ ap (
 pub written_kept : (o p q : Option (List ℕ)) (text rest : List ℕ) → Written o p text rest → Keeps p q → Written o q text rest
 written_kept o p q text rest (part, e, s) k = (part, e, appends_kept o p q part s k)
 
-pub written_begins : (o p : Option (List ℕ)) (text rest : List ℕ) → Written o p text rest → Begins o p text
+pub written_begins : (o p : Option (List ℕ)) (text rest : List ℕ) → Written o p text rest → AppendsBeginning o p text
 written_begins o p text rest (part, e, s) = begins_with o p part rest text s e
 
 pub written_all : (o p : Option (List ℕ)) (text rest : List ℕ) → Written o p text rest → length rest ≡ 0 → Appends o p text

@@ -9,13 +9,13 @@ use Rattle.console.specs.declared.fault.Fault.{Fault}
 use Rattle.console.specs.declared.fault.Fault.TheVariants.{Memory, Stream, Arguments, Filter}
 use Rattle.console.specs.declared.request.Request.{Request}
 use Rattle.console.specs.Requests.{Requested}
-use Rattle.console.specs.Texts.{refused_text}
-use Rattle.console.specs.Sending.{Begins}
+use Rattle.console.specs.Texts.{refusal_text}
+use Rattle.console.specs.Sending.{AppendsBeginning}
 
 -- what a program prints last: the line of the refusal that ends its work, if one does
 abbrev pub last_text : Result (Unit {0}) Fault → List ℕ
 last_text (Ok done) = []
-last_text (Err (Filter f)) = refused_text f ++ (10 ∷ [])
+last_text (Err (Filter f)) = refusal_text f ++ (10 ∷ [])
 last_text (Err Memory) = []
 last_text (Err Stream) = []
 last_text (Err Arguments) = []
@@ -43,7 +43,7 @@ Concluded contents done old new (Ok ended) =
     Ended done × (writer_buffer new ≡ []) × Appends (writer_contents contents old) (contents (writer_inner new)) (last_text done)
 Concluded contents done old new (Err fault) =
     ((Ended done → ⊥) × (done ≡ Err fault) × (new ≡ old))
-    ⊎ (Ended done × (fault ≡ Stream) × Begins (writer_contents contents old) (writer_contents contents new) (last_text done))
+    ⊎ (Ended done × (fault ≡ Stream) × AppendsBeginning (writer_contents contents old) (writer_contents contents new) (last_text done))
 
 -- Work was done for a request, or for none, that arguments ask for: it began with the buffer old, and left it as between.
 pub record Worked {W : Type 0} (prints : Work W) (arguments : List (String Global)) (done : Result (Unit {0}) Fault) (old between : BufWriter W Global) : Type 0 where
@@ -75,7 +75,8 @@ Unserved {W} contents prints arguments old new fault =
     (Requested (drop 1 arguments) (Err fault) × (new ≡ old))
     ⊎ ((Worked prints arguments (Err fault) old new × (Ended (Err fault) → ⊥))
     ⊎ ((fault ≡ Stream) × ((done : Result (Unit {0}) Fault) × (between : BufWriter W Global) × Ended done × Worked prints arguments done old between
-    × Begins (writer_contents contents between) (writer_contents contents new) (last_text done))))
+    × AppendsBeginning (writer_contents contents between) (writer_contents contents new)
+    (last_text done))))
 
 -- work was done for some arguments with a buffer that was empty at first
 abbrev pub Performed : {W : Type 0} → (W → Option (List ℕ)) → Work W → Type 0

@@ -2,15 +2,15 @@
 use Rattle.std.specs.Prelude.{ℕ, ◌*◌, ◌-◌, ◌/◌, length, take, drop, replicate, flat_map, false, List, [], ◌∷◌, ◌++◌, codes}
 use Rattle.std.specs.Fmt.{decimal, digits}
 use Rattle.std.specs.List.{range_with_len}
-use Rattle.filter.specs.Faults.{number_of}
+use Rattle.filter.specs.Faults.{filter_fault_number}
 use Rattle.filter.specs.declared.fault.FilterFault.{FilterFault}
 use Rattle.console.specs.declared.fault.Fault.{Fault}
 use Rattle.console.specs.declared.fault.Fault.TheVariants.{Memory, Stream, Arguments, Filter}
 use Rattle.console.specs.declared.program.Program.{Program}
 
 -- the line of a refusal, without its end
-abbrev pub refused_text : FilterFault → List ℕ
-refused_text f = codes "refused " ++ decimal (number_of f)
+abbrev pub refusal_text : FilterFault → List ℕ
+refusal_text f = codes "refused " ++ decimal (filter_fault_number f)
 
 -- why a program stops, as it says on standard error
 abbrev pub stop_text : Program → Fault → List ℕ

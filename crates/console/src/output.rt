@@ -2,7 +2,7 @@
 ghost use Rattle.std.specs.Prelude.{◌≡◌, [], ◌∷◌, ◌++◌, IfOk, IfErr};
 ghost use Rattle.std.specs.Io.Buffered.{writer_buffer, writer_inner};
 ghost use Rattle.console.specs.declared.fault.Fault.TheVariants.{Memory};
-ghost use Rattle.console.specs.Texts.{refused_text};
+ghost use Rattle.console.specs.Texts.{refusal_text};
 ghost use Rattle.console.specs.Sending.{Sent};
 
 use crate::fault::Fault;
@@ -43,7 +43,7 @@ pub fn send<W: Write>(out: &mut W, text: &[u8]) -> Result<(), Fault>
 
 /// Writes the line of a refusal. Nothing is allocated for it.
 pub fn send_refusal<W: Write>(out: &mut W, fault: FilterFault) -> Result<(), Fault>
-    ensures { Sent (W.contents out.old) (W.contents out.new) (refused_text fault ++ 10 ∷ [])
+    ensures { Sent (W.contents out.old) (W.contents out.new) (refusal_text fault ++ 10 ∷ [])
         result }
 {
     let mut digits = Buffer::new();

@@ -2,7 +2,7 @@
 ghost use Rattle.std.specs.Prelude.{◌≡◌, ◌≢◌, ◌⊎◌, drop, MatchResult, Some};
 ghost use Rattle.std.specs.IoError.{error_kind};
 ghost use Rattle.console.specs.declared.fault.Fault.TheVariants.{Memory, Arguments};
-ghost use Rattle.console.specs.Texts.{refused_text, stop_text};
+ghost use Rattle.console.specs.Texts.{refusal_text, stop_text};
 ghost use Rattle.console.specs.Endings.{Concluded, Served, Unserved, Performed, Unperformed, Stopped};
 
 use crate::fault::Fault;
@@ -18,7 +18,7 @@ use std::{env, fmt, io};
 pub struct Refused(pub FilterFault);
 
 impl fmt::Display for Refused {
-    ghost output = { λ r. Some (refused_text r.0) };
+    ghost output = { λ r. Some (refusal_text r.0) };
 
     fn fmt<W: fmt::Write>(&self, f: &mut fmt::Formatter<W>) -> fmt::Result {
         let number = self.0.number();

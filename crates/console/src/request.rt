@@ -1,6 +1,6 @@
 //! The arguments `q r blocks`, or none.
 ghost use Rattle.std.specs.Prelude.{◌≡◌, ◌≤◌, MatchResult};
-ghost use Rattle.console.specs.Requests.{Asked, Requested};
+ghost use Rattle.console.specs.Requests.{WordsAsk, Requested};
 
 use crate::fault::Fault;
 use figures::{FigureFault, whole};
@@ -17,7 +17,7 @@ pub struct Request {
 
 /// What three words ask for, each a figure.
 fn asked(q: &[u8], r: &[u8], blocks: &[u8]) -> Result<Request, FigureFault>
-    ensures { Asked q.now r.now blocks.now result }
+    ensures { WordsAsk q.now r.now blocks.now result }
 {
     let q = whole(q)?;
     let r = whole(r)?;

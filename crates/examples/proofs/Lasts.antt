@@ -2,7 +2,7 @@
 use Rattle.std.proofs.Common.{◌≡◌, ℕ, ◌+◌, ◌<◌, ◌&&◌, cond, eqb, leb, ltb, not, List, [], ◌∷◌, length, get_or, Some, refl, ap, ◌∙◌, subst, sym, arith}
 use Rattle.std.specs.List.{AllByRecursion as Every}
 use Rattle.words.specs.Bits.{bits}
-use Rattle.layout.specs.Rule.{quotient, remainder, Sorted, sorted, Entry, laid, layout, at, others, bit, runend_at, offset_at, many_from}
+use Rattle.layout.specs.Rule.{quotient, remainder, Sorted, sorted, Entry, laid, layout, reading_at, others, one_if, runend_at, offset_at, many_from}
 use Rattle.layout.specs.Format.{block_word, filter_words}
 use Rattle.layout.proofs.Inserts.{all_sorted, sorted_sorted}
 use Rattle.layout.proofs.Rooms.{room_law}
@@ -43,16 +43,16 @@ pub last_slots : (a b c : ℕ) → quotient 8 a ≡ 63 → quotient 8 b ≡ 63 �
     → (slot_shown 8 (a ∷ b ∷ c ∷ []) 63 ≡ Some (record { 0 = 63 }, remainder 8 a))
     × (slot_shown 8 (a ∷ b ∷ c ∷ []) 64 ≡ Some (record { 0 = 63 }, remainder 8 b))
     × (slot_shown 8 (a ∷ b ∷ c ∷ []) 65 ≡ Some (record { 0 = 63 }, remainder 8 c))
-unfolding laid at
+unfolding laid reading_at
 last_slots a b c ea eb ec = rw (ea, eb, ec) (refl, refl, refl)
 
 -- the runend word of the second block, by the three quotients
 runend_word : ℕ → ℕ → ℕ → ℕ
 runend_word x y z =
-    bits (λ i. cond (eqb (64 + i) 63) (bit (not (eqb y x))) (cond (eqb (64 + i) 64) (bit (not (eqb z y))) (cond (eqb (64 + i) 65) 1 0))) 64
+    bits (λ i. cond (eqb (64 + i) 63) (one_if (not (eqb y x))) (cond (eqb (64 + i) 64) (one_if (not (eqb z y))) (cond (eqb (64 + i) 65) 1 0))) 64
 
 runend_shown : (a b c : ℕ) → bits (λ i. runend_at 8 (entries a b c) (64 + i)) 64 ≡ runend_word (quotient 8 a) (quotient 8 b) (quotient 8 c)
-unfolding runend_word at others
+unfolding runend_word reading_at others
 runend_shown a b c = refl
 
 runend_two : runend_word 63 63 63 ≡ 2
@@ -61,7 +61,7 @@ runend_two = refl
 
 -- its offset, by the three quotients
 offset_word : ℕ → ℕ → ℕ → ℕ
-offset_word x y z = bit (leb 64 63 && ltb x 64) + (bit (leb 64 64 && ltb y 64) + (bit (leb 64 65 && ltb z 64) + 0))
+offset_word x y z = one_if (leb 64 63 && ltb x 64) + (one_if (leb 64 64 && ltb y 64) + (one_if (leb 64 65 && ltb z 64) + 0))
 
 offset_shown : (a b c : ℕ) → offset_at 8 (entries a b c) 64 ≡ offset_word (quotient 8 a) (quotient 8 b) (quotient 8 c)
 unfolding offset_word offset_at

@@ -1,6 +1,7 @@
 -- Which place is selected.
 use Rattle.std.proofs.Common.{◌≡◌, ℕ, suc, ◌+◌, ◌<◌, ◌↔◌, Some, None, Option, sym, refl, ap, subst, inl, inr, arith}
-use Rattle.words.specs.Bits.{bit_at, ones_under, Selected}
+use Rattle.std.specs.Int.{bit_at}
+use Rattle.words.specs.Bits.{ones_under, Selected}
 use Rattle.words.proofs.Ones.{ones_mono}
 use Rattle.blocks.proofs.Tallies.{ones_step}
 

@@ -8,7 +8,7 @@ use Rattle.layout.specs.Rule.{quotient, remainder, sorted}
 use Rattle.filter.specs.Meaning.{size_of}
 use Rattle.filter.specs.Slots.{slot_shown}
 use Rattle.filter.specs.Filters.{words_of, fingerprints, Begun, Added, Taken}
-use Rattle.filter.specs.Faults.{number_of}
+use Rattle.filter.specs.Faults.{filter_fault_number}
 use Rattle.filter.specs.declared.fault.FilterFault.{FilterFault}
 use Rattle.filter.specs.declared.fault.FilterFault.TheVariants.{NoSlot}
 use Rattle.filter.specs.declared.plan.Plan.{Plan}
@@ -16,11 +16,11 @@ use Rattle.filter.specs.declared.filter.Filter.{Filter}
 use Rattle.kinds.specs.Hashes.{fibonacci}
 
 -- the words of a filter's blocks
-abbrev pub block_words : Filter → List ℕ
-block_words f = take (size_of f.plan.r f.blocks) (words_of f)
+abbrev pub words_of_blocks : Filter → List ℕ
+words_of_blocks f = take (size_of f.plan.r f.blocks) (words_of f)
 
 -- quotients of 6 bits, remainders of 8, and b blocks
-pub record Sized (f : Filter) (b : ℕ) : Type 0 where
+pub record SmallFilter (f : Filter) (b : ℕ) : Type 0 where
   pub quotients : f.plan.q ≡ 6
   pub remainders : f.plan.r ≡ 8
   pub blocks : f.blocks ≡ b
@@ -44,7 +44,7 @@ pub record AfterTake (f : Filter) (p : ℕ) (g : Filter) : Type 0 where
 
 -- In b empty blocks the fingerprints of a list are added in any order, and `add` refuses none: not p, where the ps were added before and the rest not yet.
 abbrev pub NoneRefused : ℕ → List ℕ → Type 0
-NoneRefused b all = (f g h : Filter) (ps : List ℕ) (p : ℕ) (rest : List ℕ) (res : Result (Unit {0}) FilterFault) → Sized f b → fingerprints f ≡ []
+NoneRefused b all = (f g h : Filter) (ps : List ℕ) (p : ℕ) (rest : List ℕ) (res : Result (Unit {0}) FilterFault) → SmallFilter f b → fingerprints f ≡ []
     → sorted (ps ++ p ∷ rest) ≡ all → AfterAdds f ps g → Added g h p res → res ≡ Ok tt
 
 -- three fingerprints of the last quotient of a block, 63; some may be equal
@@ -60,48 +60,51 @@ pub record Examples : Type 0 where
   -- what `begin` gives over 11 words, or up to 21: one block, and all 11 words of it are 0
   pub empty_block : (p : Plan) (lent : MutBor (List ℕ)) (f : Filter) → p.q ≡ 6 → p.r ≡ 8
       → 11 ≤ length lent.now → length lent.now < 22 → Begun p lent f
-      → (f.blocks ≡ 1) × (block_words f ≡ replicate 11 0)
+      → (f.blocks ≡ 1) × (words_of_blocks f ≡ replicate 11 0)
   -- one block without entries, however it came to that: all 11 words are 0
-  pub no_entries : (f : Filter) → Sized f 1 → fingerprints f ≡ [] → block_words f ≡ replicate 11 0
+  pub no_entries : (f : Filter) → SmallFilter f 1 → fingerprints f ≡ []
+      → words_of_blocks f ≡ replicate 11 0
   -- 1287, 1289 and 1539 added to one empty block in any order: quotients 5, 5 and 6, in slots 5 to 7
-  pub three_entries : (f g : Filter) (ps : List ℕ) → Sized f 1 → fingerprints f ≡ []
+  pub three_entries : (f g : Filter) (ps : List ℕ) → SmallFilter f 1 → fingerprints f ≡ []
       → sorted ps ≡ 1287 ∷ 1289 ∷ 1539 ∷ [] → AfterAdds f ps g
-      → block_words g ≡ 96 ∷ 192 ∷ 0 ∷ 0x0309_0700_0000_0000 ∷ replicate 7 0
+      → words_of_blocks g ≡ 96 ∷ 192 ∷ 0 ∷ 0x0309_0700_0000_0000 ∷ replicate 7 0
   -- 1289, 1287, 1539 is such an order
   pub such_an_order : sorted (1289 ∷ 1287 ∷ 1539 ∷ []) ≡ 1287 ∷ 1289 ∷ 1539 ∷ []
   -- and none of the three is refused
   pub three_accepted : NoneRefused 1 (1287 ∷ 1289 ∷ 1539 ∷ [])
   -- 1287 then taken out: the other two move down by one slot
-  pub one_taken : (f g h : Filter) (ps : List ℕ) → Sized f 1 → fingerprints f ≡ []
+  pub one_taken : (f g h : Filter) (ps : List ℕ) → SmallFilter f 1 → fingerprints f ≡ []
       → sorted ps ≡ 1287 ∷ 1289 ∷ 1539 ∷ [] → AfterAdds f ps g → AfterTake g 1287 h
-      → block_words h ≡ 96 ∷ 96 ∷ 0 ∷ 0x0003_0900_0000_0000 ∷ replicate 7 0
+      → words_of_blocks h ≡ 96 ∷ 96 ∷ 0 ∷ 0x0003_0900_0000_0000 ∷ replicate 7 0
   -- and it is not refused
-  pub take_accepted : (g h : Filter) (res : Result (Unit {0}) FilterFault) → Sized g 1 → fingerprints g ≡ 1287 ∷ 1289 ∷ 1539 ∷ []
+  pub take_accepted : (g h : Filter) (res : Result (Unit {0}) FilterFault) → SmallFilter g 1 → fingerprints g ≡ 1287 ∷ 1289 ∷ 1539 ∷ []
       → Taken g h 1287 res → res ≡ Ok tt
   -- Two blocks, and any three entries of the last quotient of the first block, added in any order: they lie in slots 63, 64 and 65, in rising order.
   -- So the second block has a runend bit at its slot 1, and its offset is 2.
-  pub run_over : (f g : Filter) (ps : List ℕ) → Sized f 2 → fingerprints f ≡ []
+  pub run_over : (f g : Filter) (ps : List ℕ) → SmallFilter f 2 → fingerprints f ≡ []
       → ThreeOfLast ps → AfterAdds f ps g
       → ShowsLast g 63 (slice_index (sorted ps) 0)
       × ShowsLast g 64 (slice_index (sorted ps) 1)
       × ShowsLast g 65 (slice_index (sorted ps) 2)
-      × (slice_index (block_words g) 12 ≡ 2) × (slice_index (block_words g) 13 ≡ 2)
+      × (slice_index (words_of_blocks g) 12 ≡ 2) × (slice_index (words_of_blocks g) 13 ≡ 2)
   -- and none of the three is refused
   pub run_over_accepted : (ps : List ℕ) → ThreeOfLast ps → NoneRefused 2 (sorted ps)
   -- one block with an entry of the last quotient, 63: a second one is refused
-  pub last_quotient_full : (f g : Filter) (a p : ℕ) (res : Result (Unit {0}) FilterFault) → Sized f 1
+  pub last_quotient_full : (f g : Filter) (a p : ℕ) (res : Result (Unit {0}) FilterFault) → SmallFilter f 1
       → fingerprints f ≡ a ∷ [] → quotient 8 a ≡ 63 → quotient 8 p ≡ 63 → Added f g p res → res ≡ Err NoSlot
   -- one block with two entries of quotient 62: one of quotient 63 is refused, though 62 slots are free
-  pub free_slots_below : (f g : Filter) (a b p : ℕ) (res : Result (Unit {0}) FilterFault) → Sized f 1
+  pub free_slots_below : (f g : Filter) (a b p : ℕ) (res : Result (Unit {0}) FilterFault) → SmallFilter f 1
       → fingerprints f ≡ a ∷ b ∷ [] → quotient 8 a ≡ 62 → quotient 8 b ≡ 62 → quotient 8 p ≡ 63 → Added f g p res → res ≡ Err NoSlot
   -- the number of these refusals
-  pub no_slot_number : number_of NoSlot ≡ 20
+  pub no_slot_number : filter_fault_number NoSlot ≡ 20
   -- one block whose last slot is used: an entry of quotient 0 is not refused
-  pub last_slot_used : (f g : Filter) (a p : ℕ) (res : Result (Unit {0}) FilterFault) → Sized f 1
+  pub last_slot_used : (f g : Filter) (a p : ℕ) (res : Result (Unit {0}) FilterFault)
+      → SmallFilter f 1
       → fingerprints f ≡ a ∷ [] → quotient 8 a ≡ 63 → quotient 8 p ≡ 0 → Added f g p res → res ≡ Ok tt
   -- three blocks and 150 entries of fingerprint 0: the offsets of the blocks
-  pub long_run : (f g : Filter) → Sized f 3 → fingerprints f ≡ [] → AfterAdds f (replicate 150 0) g
-      → (slice_index (block_words g) 2 ≡ 0) × (slice_index (block_words g) 13 ≡ 86) × (slice_index (block_words g) 24 ≡ 22)
+  pub long_run : (f g : Filter) → SmallFilter f 3 → fingerprints f ≡ []
+      → AfterAdds f (replicate 150 0) g
+      → (slice_index (words_of_blocks g) 2 ≡ 0) × (slice_index (words_of_blocks g) 13 ≡ 86) × (slice_index (words_of_blocks g) 24 ≡ 22)
   -- and none of the 150 is refused
   pub long_run_accepted : NoneRefused 3 (replicate 150 0)
   -- the fingerprint of the pair of glyphs 0 and 1

@@ -4,7 +4,7 @@ use Rattle.std.specs.Borrow.{Bor}
 use Rattle.figures.specs.declared.FigureFault.{FigureFault}
 use Rattle.figures.specs.declared.FigureFault.TheVariants.{Unreadable, TooLarge}
 use Rattle.figures.specs.Figures.{Figure, Stops, NoFigure}
-use Rattle.figures.specs.Numbers.{Glyph, Within}
+use Rattle.figures.specs.Numbers.{Glyph, FitsValue}
 
 -- bytes begin with the figure of n, and rest follows it
 pub record Begins (bytes : List ℕ) (n : ℕ) (rest : List ℕ) : Type 0 where
@@ -26,8 +26,8 @@ Amount bytes (negsuc n) = (ds : List ℕ) × (bytes ≡ 45 ∷ ds) × Figure ds 
 
 -- what is read of bytes that are to be a value
 abbrev pub Weighed : List ℕ → Result ℤ FigureFault → Type 0
-Weighed bytes (Ok z) = Within z × Amount bytes z
-Weighed bytes (Err TooLarge) = (z : ℤ) × (Within z → ⊥) × Amount bytes z
+Weighed bytes (Ok z) = FitsValue z × Amount bytes z
+Weighed bytes (Err TooLarge) = (z : ℤ) × (FitsValue z → ⊥) × Amount bytes z
 Weighed bytes (Err Unreadable) = (z : ℤ) → Amount bytes z → ⊥
 
 -- two figures and a value of any size, parted by single spaces
@@ -42,6 +42,6 @@ pub record PairLine (bytes : List ℕ) (a b : ℕ) (z : ℤ) : Type 0 where
 
 -- what is read of bytes that are to be two glyph numbers and a value
 abbrev pub Paired : List ℕ → Result (ℕ × ℕ × ℤ) FigureFault → Type 0
-Paired bytes (Ok p) = Glyph p.0 × Glyph p.1 × Within p.2 × PairLine bytes p.0 p.1 p.2
-Paired bytes (Err TooLarge) = (a : ℕ) × (b : ℕ) × (z : ℤ) × PairLine bytes a b z × ((65535 < a) ⊎ ((65535 < b) ⊎ (Within z → ⊥)))
+Paired bytes (Ok p) = Glyph p.0 × Glyph p.1 × FitsValue p.2 × PairLine bytes p.0 p.1 p.2
+Paired bytes (Err TooLarge) = (a : ℕ) × (b : ℕ) × (z : ℤ) × PairLine bytes a b z × ((65535 < a) ⊎ ((65535 < b) ⊎ (FitsValue z → ⊥)))
 Paired bytes (Err Unreadable) = (a b : ℕ) (z : ℤ) → PairLine bytes a b z → ⊥

@@ -1,6 +1,6 @@
 //! Which numbers a line may have.
 ghost use Rattle.std.specs.Prelude.{◌≡◌, ◌<◌, ◌≤◌, MatchResult};
-ghost use Rattle.figures.specs.Numbers.{Glyph, Within, Classified};
+ghost use Rattle.figures.specs.Numbers.{Glyph, FitsValue, Classified};
 
 use crate::FigureFault;
 
@@ -52,8 +52,8 @@ pub fn glyph_number(number: u32) -> Result<u16, FigureFault>
 
 // The value that a number is, if it is from -32,768 to 32,767.
 pub(crate) fn value_number(number: i64) -> Result<i16, FigureFault>
-    ensures { MatchResult result (λ v. (v ≡ number) × Within number)
-        (λ e. (e ≡ FigureFault.TooLarge) × (Within number → ⊥)) }
+    ensures { MatchResult result (λ v. (v ≡ number) × FitsValue number)
+        (λ e. (e ≡ FigureFault.TooLarge) × (FitsValue number → ⊥)) }
 {
     match classify(Parsed::Value(number)) {
         Number::Value(value) => Ok(value),

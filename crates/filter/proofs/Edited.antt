@@ -4,11 +4,11 @@ use Rattle.std.proofs.lemmas.Bool.{cases_eq, cases_lt, cond-true, cond-false, eq
 use Rattle.std.proofs.lemmas.List.{length-map}
 use Rattle.words.proofs.Rows.{Words}
 use Rattle.layout.specs.Format.{filter_words}
-use Rattle.layout.specs.Rule.{bit, quotient, remainder, insert, remove, run, many}
+use Rattle.layout.specs.Rule.{one_if, quotient, remainder, with_one, without_one, quotient_run, many}
 use Rattle.layout.specs.Runs.{remainders}
 use Rattle.layout.specs.Load.{start, FirstFree, FirstIdle}
 use Rattle.layout.specs.Moves.{Fit}
-use Rattle.layout.specs.Laws.{count}
+use Rattle.layout.specs.Laws.{copies_of}
 use Rattle.layout.proofs.Bags.{find_law}
 use Rattle.layout.proofs.Bounds.{fit_law}
 use Rattle.layout.proofs.Bridge.{layout_law}
@@ -18,24 +18,24 @@ use Rattle.layout.proofs.Loads.{load_step, remove_law}
 use Rattle.layout.proofs.Sorts.{count_here}
 use Rattle.blocks.specs.Views.{occupied_bit_in, remainder_in, offset_in, Shows}
 use Rattle.blocks.proofs.Forms.{words_from_views}
-use Rattle.filter.specs.Meaning.{size_of, held_in, Sound}
+use Rattle.filter.specs.Meaning.{size_of, fingerprints_in, Sound}
 use Rattle.filter.specs.Locating.{Placed}
 use Rattle.filter.specs.Editing.{EntryPut, EntryGone}
 use Rattle.filter.specs.Arrivals.{before, Arrives, Departs}
-use Rattle.layout.proofs.Bags.{is_sorted}
+use Rattle.layout.proofs.Bags.{sorted_of_Sorted}
 use Rattle.filter.proofs.Editings.{put_shows, gone_shows}
 use Rattle.filter.proofs.Locatings.{within, load_is}
 
-count_none : (v : ℕ) (l : List ℕ) → ((i : ℕ) → i < length l → get_or l i 0 ≡ v → ⊥) → count v l ≡ 0
+count_none : (v : ℕ) (l : List ℕ) → ((i : ℕ) → i < length l → get_or l i 0 ≡ v → ⊥) → copies_of v l ≡ 0
 count_none v [] h = refl
 count_none v (x ∷ l) h =
-    let other : bit (eqb x v) ≡ 0 = cond-false (eqb x v) 1 0 (ne_eqb x v (λ e. h 0 (omega arith) e)) in
+    let other : one_if (eqb x v) ≡ 0 = cond-false (eqb x v) 1 0 (ne_eqb x v (λ e. h 0 (omega arith) e)) in
     omega (arith, count_here x v l, count_none v l (λ i g e. h (suc i) (omega arith) e))
 
-count_some : (v : ℕ) (l : List ℕ) (j : ℕ) → j < length l → get_or l j 0 ≡ v → 0 < count v l
+count_some : (v : ℕ) (l : List ℕ) (j : ℕ) → j < length l → get_or l j 0 ≡ v → 0 < copies_of v l
 count_some v [] j g e = absurd (omega arith)
 count_some v (x ∷ l) zero g e =
-    let same : bit (eqb x v) ≡ 1 = cond-true (eqb x v) 1 0 (eq-eqb x v e) in omega (arith, count_here x v l)
+    let same : one_if (eqb x v) ≡ 1 = cond-true (eqb x v) 1 0 (eq-eqb x v e) in omega (arith, count_here x v l)
 count_some v (x ∷ l) (suc j) g e = omega (arith, count_here x v l, count_some v l j (omega arith) e)
 
 pub remainder_low : (r p : ℕ) → remainder r p < 2 ^ r
@@ -59,21 +59,21 @@ module _ (r blocks : ℕ) (ws : List ℕ) (sound : Sound r blocks ws) where
       (λ (l : 64 * blocks ≤ 64 * b). omega (arith, sound.shows.offsets b, w.past (64 * b) l)) (cases_lt (64 * b) (64 * blocks))
 
   -- the i-th remainder of a run
-  pub rem_at : (c i : ℕ) → i < many r (held_in r blocks ws) c → remainder_in r ws (start (many r (held_in r blocks ws)) c + i) ≡ get_or (remainders r (held_in r blocks ws) c) i 0
+  pub rem_at : (c i : ℕ) → i < many r (fingerprints_in r blocks ws) c → remainder_in r ws (start (many r (fingerprints_in r blocks ws)) c + i) ≡ get_or (remainders r (fingerprints_in r blocks ws) c) i 0
   rem_at c i l =
-      let m = many r (held_in r blocks ws) in
+      let m = many r (fingerprints_in r blocks ws) in
       let z : (start m c + i) - start m c ≡ i = omega arith in
-      sound.shows.remainders (start m c + i) ∙ (layout_law r (held_in r blocks ws) sound.rising).holds c (start m c + i) (omega arith) (omega (arith, load_step m c))
-      ∙ ap (λ x. get_or (remainders r (held_in r blocks ws) c) x 0) z
+      sound.shows.remainders (start m c + i) ∙ (layout_law r (fingerprints_in r blocks ws) sound.rising).holds c (start m c + i) (omega arith) (omega (arith, load_step m c))
+      ∙ ap (λ x. get_or (remainders r (fingerprints_in r blocks ws) c) x 0) z
 
   -- ---- whether a fingerprint is there
 
   -- in a run whose remainders rise, one that is not where it would be is nowhere
-  pub absent : (c S T P v : ℕ) → S ≡ start (many r (held_in r blocks ws)) c → T ≡ S + many r (held_in r blocks ws) c → S ≤ P
+  pub absent : (c S T P v : ℕ) → S ≡ start (many r (fingerprints_in r blocks ws)) c → T ≡ S + many r (fingerprints_in r blocks ws) c → S ≤ P
       → ((k : ℕ) → S ≤ k → k < P → remainder_in r ws k < v) → (P < T → v ≤ remainder_in r ws P) → (T ≤ P) ⊎ (remainder_in r ws P ≢ v)
-      → (k : ℕ) → k < many r (held_in r blocks ws) c → remainder_in r ws (start (many r (held_in r blocks ws)) c + k) ≡ v → ⊥
+      → (k : ℕ) → k < many r (fingerprints_in r blocks ws) c → remainder_in r ws (start (many r (fingerprints_in r blocks ws)) c + k) ≡ v → ⊥
   absent c S T P v starts stops lo below here why k l e =
-      let m = many r (held_in r blocks ws) in
+      let m = many r (fingerprints_in r blocks ws) in
       let s : start m c + k ≡ S + k = omega arith in
       let same = ap (remainder_in r ws) s in
       ⊎_elim
@@ -83,53 +83,53 @@ module _ (r blocks : ℕ) (ws : List ℕ) (sound : Sound r blocks ws) where
       (λ (h : remainder_in r ws P ≢ v).
       let j : ℕ = P - S in
       let at : start m c + j ≡ P = omega arith in
-      let rise = (fit_law r (held_in r blocks ws) sound.rising c).1 j k (omega arith) l in
+      let rise = (fit_law r (fingerprints_in r blocks ws) sound.rising c).1 j k (omega arith) l in
       omega (arith, rise, rem_at c j (omega arith), ap (remainder_in r ws) at, rem_at c k l, here (omega arith))) why)
       (cases_lt (S + k) P)
 
-  pub none_there : (p : ℕ) → ((k : ℕ) → k < many r (held_in r blocks ws) (quotient r p) → remainder_in r ws (start (many r (held_in r blocks ws)) (quotient r p) + k) ≡ remainder r p → ⊥)
-      → count p (held_in r blocks ws) ≡ 0
+  pub none_there : (p : ℕ) → ((k : ℕ) → k < many r (fingerprints_in r blocks ws) (quotient r p) → remainder_in r ws (start (many r (fingerprints_in r blocks ws)) (quotient r p) + k) ≡ remainder r p → ⊥)
+      → copies_of p (fingerprints_in r blocks ws) ≡ 0
   none_there p h =
-      find_law r p (held_in r blocks ws)
-      ∙ count_none (remainder r p) (remainders r (held_in r blocks ws) (quotient r p)) (λ i l e.
-      let short : i < many r (held_in r blocks ws) (quotient r p) = omega (arith, length-map (run r (held_in r blocks ws) (quotient r p)) (remainder r)) in
+      find_law r p (fingerprints_in r blocks ws)
+      ∙ count_none (remainder r p) (remainders r (fingerprints_in r blocks ws) (quotient r p)) (λ i l e.
+      let short : i < many r (fingerprints_in r blocks ws) (quotient r p) = omega (arith, length-map (quotient_run r (fingerprints_in r blocks ws) (quotient r p)) (remainder r)) in
       h i short (rem_at (quotient r p) i short ∙ e))
 
   -- nothing has a quotient that is not occupied
-  pub not_occupied : (p : ℕ) → eqb (occupied_bit_in r ws (quotient r p)) 1 ≡ false → count p (held_in r blocks ws) ≡ 0
+  pub not_occupied : (p : ℕ) → eqb (occupied_bit_in r ws (quotient r p)) 1 ≡ false → copies_of p (fingerprints_in r blocks ws) ≡ 0
   not_occupied p e =
       none_there p (λ k l z.
-      let one : occupied_bit_in r ws (quotient r p) ≡ 1 = sound.shows.occupied (quotient r p) ∙ cond-true (ltb 0 (many r (held_in r blocks ws) (quotient r p))) 1 0 (lt-ltb 0 (many r (held_in r blocks ws) (quotient r p)) (omega arith)) in
+      let one : occupied_bit_in r ws (quotient r p) ≡ 1 = sound.shows.occupied (quotient r p) ∙ cond-true (ltb 0 (many r (fingerprints_in r blocks ws) (quotient r p))) 1 0 (lt-ltb 0 (many r (fingerprints_in r blocks ws) (quotient r p)) (omega arith)) in
       true≢false (sym (eq-eqb (occupied_bit_in r ws (quotient r p)) 1 one) ∙ e))
 
-  pub one_there : (p j : ℕ) → j < many r (held_in r blocks ws) (quotient r p) → get_or (remainders r (held_in r blocks ws) (quotient r p)) j 0 ≡ remainder r p → 0 < count p (held_in r blocks ws)
+  pub one_there : (p j : ℕ) → j < many r (fingerprints_in r blocks ws) (quotient r p) → get_or (remainders r (fingerprints_in r blocks ws) (quotient r p)) j 0 ≡ remainder r p → 0 < copies_of p (fingerprints_in r blocks ws)
   one_there p j l e =
       omega (
         arith,
-        find_law r p (held_in r blocks ws),
-        count_some (remainder r p) (remainders r (held_in r blocks ws) (quotient r p)) j (omega (arith, length-map (run r (held_in r blocks ws) (quotient r p)) (remainder r))) e,
+        find_law r p (fingerprints_in r blocks ws),
+        count_some (remainder r p) (remainders r (fingerprints_in r blocks ws) (quotient r p)) j (omega (arith, length-map (quotient_run r (fingerprints_in r blocks ws) (quotient r p)) (remainder r))) e,
       )
 
   -- ---- an entry more
 
   -- where the search in the run stopped, the entry would come
-  module _ (p S T P : ℕ) (starts : S ≡ start (many r (held_in r blocks ws)) (quotient r p)) (stops : T ≡ S + many r (held_in r blocks ws) (quotient r p))
+  module _ (p S T P : ℕ) (starts : S ≡ start (many r (fingerprints_in r blocks ws)) (quotient r p)) (stops : T ≡ S + many r (fingerprints_in r blocks ws) (quotient r p))
       (lo : S ≤ P) (hi : P ≤ T) (below : (k : ℕ) → S ≤ k → k < P → remainder_in r ws k < remainder r p) (here : P < T → remainder r p ≤ remainder_in r ws P) where
-    put_fit : Fit (before r (held_in r blocks ws) p P) (remainder r p) (remainders r (held_in r blocks ws) (quotient r p))
+    put_fit : Fit (before r (fingerprints_in r blocks ws) p P) (remainder r p) (remainders r (fingerprints_in r blocks ws) (quotient r p))
     put_fit =
         let c = quotient r p in
-        let j : ℕ = before r (held_in r blocks ws) p P in
-        (fit_law r (held_in r blocks ws) sound.rising c).2 j (remainder r p) (omega arith)
-        (λ l. let at : start (many r (held_in r blocks ws)) c + (j - 1) ≡ P - 1 = omega arith in
+        let j : ℕ = before r (fingerprints_in r blocks ws) p P in
+        (fit_law r (fingerprints_in r blocks ws) sound.rising c).2 j (remainder r p) (omega arith)
+        (λ l. let at : start (many r (fingerprints_in r blocks ws)) c + (j - 1) ≡ P - 1 = omega arith in
         omega (arith, rem_at c (j - 1) (omega arith), ap (remainder_in r ws) at, below (P - 1) (omega arith) (omega arith)))
-        (λ l. let at : start (many r (held_in r blocks ws)) c + j ≡ P = omega arith in
+        (λ l. let at : start (many r (fingerprints_in r blocks ws)) c + j ≡ P = omega arith in
         omega (arith, rem_at c j l, ap (remainder_in r ws) at, here (omega arith)))
 
-    pub arrives : (c rem u : ℕ) (ends follows : Bool) → c ≡ quotient r p → rem ≡ remainder r p → FirstFree (many r (held_in r blocks ws)) (quotient r p) u → u < 64 * blocks
-        → ends ≡ eqb P T → follows ≡ (ltb S P && eqb P T) → Arrives r blocks (held_in r blocks ws) p c P u rem ends follows
+    pub arrives : (c rem u : ℕ) (ends follows : Bool) → c ≡ quotient r p → rem ≡ remainder r p → FirstFree (many r (fingerprints_in r blocks ws)) (quotient r p) u → u < 64 * blocks
+        → ends ≡ eqb P T → follows ≡ (ltb S P && eqb P T) → Arrives r blocks (fingerprints_in r blocks ws) p c P u rem ends follows
     arrives c rem u ends follows ec er free room ee ef =
-        let j : ℕ = before r (held_in r blocks ws) p P in
-        let M : ℕ = many r (held_in r blocks ws) (quotient r p) in
+        let j : ℕ = before r (fingerprints_in r blocks ws) p P in
+        let M : ℕ = many r (fingerprints_in r blocks ws) (quotient r p) in
         let last = same_eqb P T j M (λ e. omega arith) (λ e. omega arith) in
         let first = same_ltb S P 0 j (λ l. omega arith) (λ l. omega arith) in
         record {
@@ -143,15 +143,15 @@ module _ (r blocks : ℕ) (ws : List ℕ) (sound : Sound r blocks ws) where
           below = room;
         }
 
-  module _ (p c s free rem : ℕ) (ends follows : Bool) (a : Arrives r blocks (held_in r blocks ws) p c s free rem ends follows) where
+  module _ (p c s free rem : ℕ) (ends follows : Bool) (a : Arrives r blocks (fingerprints_in r blocks ws) p c s free rem ends follows) where
     pub put_room : (c ≤ s) × (s ≤ free)
     put_room =
-        let law = (insert_slots_law r p (held_in r blocks ws) (before r (held_in r blocks ws) p s) free sound.rising a.first_free a.fits).room in
+        let law = (insert_slots_law r p (fingerprints_in r blocks ws) (before r (fingerprints_in r blocks ws) p s) free sound.rising a.first_free a.fits).room in
         (omega (arith, a.its_quotient, a.from), omega (arith, a.from, law))
 
-    put_result : (vs : List ℕ) → EntryPut r ws vs c s free rem ends follows → Shows r vs (insert p (held_in r blocks ws))
+    put_result : (vs : List ℕ) → EntryPut r ws vs c s free rem ends follows → Shows r vs (with_one p (fingerprints_in r blocks ws))
     put_result vs put =
-        let ps = held_in r blocks ws in
+        let ps = fingerprints_in r blocks ws in
         let j : ℕ = before r ps p s in
         let at : s ≡ start (many r ps) (quotient r p) + j = omega (arith, a.from) in
         let put1 = subst (λ x. EntryPut r ws vs x s free rem ends follows) a.its_quotient put in
@@ -163,20 +163,20 @@ module _ (r blocks : ℕ) (ws : List ℕ) (sound : Sound r blocks ws) where
 
     -- so the words are the layout of the longer list
     pub put_words : (vs : List ℕ) → 0 < r → Words vs → length vs ≡ size_of r blocks → EntryPut r ws vs c s free rem ends follows
-        → vs ≡ filter_words r blocks (insert p (held_in r blocks ws))
+        → vs ≡ filter_words r blocks (with_one p (fingerprints_in r blocks ws))
     put_words vs pos all sized put =
-        let ps = held_in r blocks ws in
+        let ps = fingerprints_in r blocks ws in
         let shows = put_result vs put in
-        words_from_views r (insert p ps) pos vs all (subst (Shows r vs) (sym (is_sorted (insert p ps) (sorted_insert p ps sound.rising))) shows) blocks sized
+        words_from_views r (with_one p ps) pos vs all (subst (Shows r vs) (sym (sorted_of_Sorted (with_one p ps) (sorted_insert p ps sound.rising))) shows) blocks sized
 
   -- ---- an entry less
 
   -- an entry that was found, and the first idle slot after its quotient
-  pub departs : (p c S T P t : ℕ) (follows only : Bool) → Placed r (held_in r blocks ws) p c S T P → FirstIdle (many r (held_in r blocks ws)) (quotient r p) t → t ≤ 64 * blocks
-      → follows ≡ (ltb S P && eqb (P + 1) T) → only ≡ eqb (S + 1) T → Departs r blocks (held_in r blocks ws) p c P (t - 1) follows only
+  pub departs : (p c S T P t : ℕ) (follows only : Bool) → Placed r (fingerprints_in r blocks ws) p c S T P → FirstIdle (many r (fingerprints_in r blocks ws)) (quotient r p) t → t ≤ 64 * blocks
+      → follows ≡ (ltb S P && eqb (P + 1) T) → only ≡ eqb (S + 1) T → Departs r blocks (fingerprints_in r blocks ws) p c P (t - 1) follows only
   departs p c S T P t follows only w idle room ef eo =
-      let j : ℕ = before r (held_in r blocks ws) p P in
-      let M : ℕ = many r (held_in r blocks ws) (quotient r p) in
+      let j : ℕ = before r (fingerprints_in r blocks ws) p P in
+      let M : ℕ = many r (fingerprints_in r blocks ws) (quotient r p) in
       let starts = w.starts in
       let stops = w.stops in
       let lo = w.in_run.from in
@@ -190,32 +190,32 @@ module _ (r blocks : ℕ) (ws : List ℕ) (sound : Sound r blocks ws) where
         its_quotient = w.its_quotient;
         from = lo;
         in_run = omega arith;
-        found = ap (λ x. get_or (remainders r (held_in r blocks ws) (quotient r p)) x 0) (sym same) ∙ w.found;
+        found = ap (λ x. get_or (remainders r (fingerprints_in r blocks ws) (quotient r p)) x 0) (sym same) ∙ w.found;
         more = ef ∙ ap₂ (λ a b. a && b) first last;
         alone = eo ∙ single;
-        idle = subst (FirstIdle (many r (held_in r blocks ws)) (quotient r p)) next idle;
+        idle = subst (FirstIdle (many r (fingerprints_in r blocks ws)) (quotient r p)) next idle;
         below = omega (arith, idle.from);
       }
 
-  module _ (p c s gap : ℕ) (follows only : Bool) (d : Departs r blocks (held_in r blocks ws) p c s gap follows only) where
+  module _ (p c s gap : ℕ) (follows only : Bool) (d : Departs r blocks (fingerprints_in r blocks ws) p c s gap follows only) where
     pub gone_room : (c ≤ s) × (s ≤ gap)
     gone_room =
-        let ps = held_in r blocks ws in
+        let ps = fingerprints_in r blocks ws in
         let j : ℕ = before r ps p s in
         let one = one_remove r p ps sound.rising j d.in_run d.found in
         let law = (remove_slots_law r p ps j (suc gap) sound.rising d.in_run d.found d.idle).room in
-        let same = (remove_law (many r ps) (many r (remove p ps)) (quotient r p) (suc gap) one d.idle).before (quotient r p) (omega arith) in
+        let same = (remove_law (many r ps) (many r (without_one p ps)) (quotient r p) (suc gap) one d.idle).before (quotient r p) (omega arith) in
         (omega (arith, d.its_quotient, d.from), omega (arith, d.from, law, same))
 
     pub gone_waits : (b : ℕ) → c < 64 * b → 64 * b ≤ gap → 0 < offset_in r ws b
     gone_waits b l g = omega (arith, d.its_quotient, d.idle.waits (64 * b) (omega (arith, d.its_quotient)) (omega arith), load_is r blocks ws sound (64 * b), sound.shows.offsets b)
 
-    pub gone_there : 0 < count p (held_in r blocks ws)
-    gone_there = one_there p (before r (held_in r blocks ws) p s) d.in_run d.found
+    pub gone_there : 0 < copies_of p (fingerprints_in r blocks ws)
+    gone_there = one_there p (before r (fingerprints_in r blocks ws) p s) d.in_run d.found
 
-    gone_result : (vs : List ℕ) → EntryGone r ws vs c s gap follows only → Shows r vs (remove p (held_in r blocks ws))
+    gone_result : (vs : List ℕ) → EntryGone r ws vs c s gap follows only → Shows r vs (without_one p (fingerprints_in r blocks ws))
     gone_result vs gone =
-        let ps = held_in r blocks ws in
+        let ps = fingerprints_in r blocks ws in
         let j : ℕ = before r ps p s in
         let M : ℕ = many r ps (quotient r p) in
         let at : s ≡ start (many r ps) (quotient r p) + j = omega (arith, d.from) in
@@ -225,7 +225,7 @@ module _ (r blocks : ℕ) (ws : List ℕ) (sound : Sound r blocks ws) where
         let g4 = subst (λ x. EntryGone r ws vs (quotient r p) x gap (ltb 0 j && eqb (suc j) M) (eqb M 1)) at g3 in
         gone_shows r p ps ws vs j (suc gap) sound.rising sound.shows d.in_run d.found d.idle (subst (λ x. EntryGone r ws vs (quotient r p) (start (many r ps) (quotient r p) + j) x (ltb 0 j && eqb (suc j) M) (eqb M 1)) (omega arith) g4)
 
-    pub gone_words : (vs : List ℕ) → 0 < r → Words vs → length vs ≡ size_of r blocks → EntryGone r ws vs c s gap follows only → vs ≡ filter_words r blocks (remove p (held_in r blocks ws))
+    pub gone_words : (vs : List ℕ) → 0 < r → Words vs → length vs ≡ size_of r blocks → EntryGone r ws vs c s gap follows only → vs ≡ filter_words r blocks (without_one p (fingerprints_in r blocks ws))
     gone_words vs pos all sized gone =
-        let ps = held_in r blocks ws in
-        words_from_views r (remove p ps) pos vs all (subst (Shows r vs) (sym (is_sorted (remove p ps) (sorted_remove p ps sound.rising))) (gone_result vs gone)) blocks sized
+        let ps = fingerprints_in r blocks ws in
+        words_from_views r (without_one p ps) pos vs all (subst (Shows r vs) (sym (sorted_of_Sorted (without_one p ps) (sorted_remove p ps sound.rising))) (gone_result vs gone)) blocks sized

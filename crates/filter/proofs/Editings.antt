@@ -2,7 +2,7 @@
 use Rattle.std.proofs.Common.{◌≡◌, ℕ, zero, suc, ◌+◌, ◌-◌, ◌*◌, ◌<◌, ◌≤◌, true, false, cond, ◌&&◌, eqb, ltb, leb, ◌≢◌, ◌⊎◌, List, get_or, sym, ap, ◌∙◌, subst, inl, inr, ⊎_elim, arith}
 use Rattle.std.proofs.lemmas.List.{length-map}
 use Rattle.std.proofs.lemmas.Bool.{cases_order, cases_lt, cases_eq, cases_Bool, and_parts, and_cases, ltb-true, ltb-false, cond-true, cond-false, eq-eqb, ne_eqb, eqb-true, eqb-false, lt-ltb, le-ltb, le-leb, lt-leb}
-use Rattle.layout.specs.Rule.{bit, quotient, remainder, Sorted, insert, remove, laid, occupied_at, runend_at, remainder_at, run, many}
+use Rattle.layout.specs.Rule.{one_if, quotient, remainder, Sorted, with_one, without_one, laid, occupied_at, runend_at, remainder_at, quotient_run, many}
 use Rattle.layout.specs.Runs.{remainders}
 use Rattle.layout.specs.Load.{start, FirstFree, FirstIdle}
 use Rattle.layout.specs.Moves.{Fit, Slid, SlidEnds}
@@ -30,7 +30,7 @@ by_place_down P p u l below moved gap above k =
     (λ (g : p ≤ k). ⊎_elim (λ (z : k ≡ u). subst P (sym z) gap) (λ o. ⊎_elim (λ (h : k < u). moved k g h) (λ (h : u < k). above k h) o) (cases_order k u))
     (cases_lt k p)
 
-only_bit : (n : ℕ) → 0 < n → cond (eqb n 1) 0 1 ≡ bit (ltb 1 n)
+only_bit : (n : ℕ) → 0 < n → cond (eqb n 1) 0 1 ≡ one_if (ltb 1 n)
 only_bit n l =
     ⊎_elim (λ (z : n ≡ 1). cond-true (eqb n 1) 0 1 (eq-eqb n 1 z) ∙ sym (cond-false (ltb 1 n) 1 0 (le-ltb 1 n (omega arith))))
     (λ (z : n ≢ 1). cond-false (eqb n 1) 0 1 (ne_eqb n 1 z) ∙ sym (cond-true (ltb 1 n) 1 0 (lt-ltb 1 n (omega arith)))) (cases_eq n 1)
@@ -43,14 +43,14 @@ up_to x t l =
 module _ (r p : ℕ) (ps ws vs : List ℕ) (j u : ℕ) (s : Sorted ps) (shows : Shows r ws ps)
     (free : FirstFree (many r ps) (quotient r p) u) (fit : Fit j (remainder r p) (remainders r ps (quotient r p))) where
   pub put_shows : EntryPut r ws vs (quotient r p) (start (many r ps) (quotient r p) + j) u (remainder r p) (eqb j (many r ps (quotient r p))) (ltb 0 j && eqb j (many r ps (quotient r p)))
-      → Shows r vs (insert p ps)
+      → Shows r vs (with_one p ps)
   put_shows put =
       let at = insert_slots_law r p ps j u s free fit in
       let M : ℕ = many r ps (quotient r p) in
       let P : ℕ = start (many r ps) (quotient r p) + j in
       record {
         occupied = λ k. put.occupied k ∙ ap (cond (eqb k (quotient r p)) 1) (shows.occupied k) ∙ sym (insert_occupied_law r p ps s k);
-        runends = by_place (λ k. runend_in r vs k ≡ runend_at r (laid r 0 (insert p ps)) k) P u at.room
+        runends = by_place (λ k. runend_in r vs k ≡ runend_at r (laid r 0 (with_one p ps)) k) P u at.room
             (λ k l. ⊎_elim
             (λ (z : suc k ≡ P). put.end_before k z ∙ ⊎_elim
             (λ (y : (ltb 0 j && eqb j M) ≡ true).
@@ -62,8 +62,8 @@ module _ (r p : ℕ) (ps ws vs : List ℕ) (j u : ℕ) (s : Sorted ps) (shows : 
             (put.end_here ∙ sym at.ends.here)
             (λ k lo hi. put.end_moved k lo hi ∙ shows.runends k ∙ sym (at.ends.moved k lo hi))
             (λ k hi. put.end_above k hi ∙ shows.runends k ∙ sym (at.ends.above k hi));
-        offsets = λ b. put.offsets b ∙ ap (λ x. x + bit (ltb (quotient r p) (64 * b) && leb (64 * b) u)) (shows.offsets b) ∙ sym (insert_offsets_law r p ps u s free (64 * b));
-        remainders = by_place (λ k. remainder_in r vs k ≡ remainder_at r (laid r 0 (insert p ps)) k) P u at.room
+        offsets = λ b. put.offsets b ∙ ap (λ x. x + one_if (ltb (quotient r p) (64 * b) && leb (64 * b) u)) (shows.offsets b) ∙ sym (insert_offsets_law r p ps u s free (64 * b));
+        remainders = by_place (λ k. remainder_in r vs k ≡ remainder_at r (laid r 0 (with_one p ps)) k) P u at.room
             (λ k l. put.rem_below k l ∙ shows.remainders k ∙ sym (at.remainders.below k l))
             (put.rem_here ∙ sym at.remainders.here)
             (λ k lo hi. put.rem_moved k lo hi ∙ shows.remainders k ∙ sym (at.remainders.moved k lo hi))
@@ -74,7 +74,7 @@ module _ (r p : ℕ) (ps ws vs : List ℕ) (j u : ℕ) (s : Sorted ps) (shows : 
       not_last y = ⊎_elim (λ (z : ltb 0 j ≡ false). inl (omega (arith, ltb-false 0 j z)))
           (λ (z : eqb j (many r ps (quotient r p)) ≡ false).
           let ne : j ≢ many r ps (quotient r p) = eqb-false j (many r ps (quotient r p)) z in
-          inr (omega (arith, fit.within, length-map (run r ps (quotient r p)) (remainder r))))
+          inr (omega (arith, fit.within, length-map (quotient_run r ps (quotient r p)) (remainder r))))
           (and_cases (ltb 0 j) (eqb j (many r ps (quotient r p))) y)
 
 -- the same of an entry less: slot u is the one before the first idle slot
@@ -82,33 +82,33 @@ module _ (r p : ℕ) (ps ws vs : List ℕ) (j t : ℕ) (s : Sorted ps) (shows : 
     (in_run : j < many r ps (quotient r p)) (found : get_or (remainders r ps (quotient r p)) j 0 ≡ remainder r p) (idle : FirstIdle (many r ps) (quotient r p) t) where
   pub gone_shows : EntryGone r ws vs (quotient r p) (start (many r ps) (quotient r p) + j) (t - 1)
       (ltb 0 j && eqb (suc j) (many r ps (quotient r p))) (eqb (many r ps (quotient r p)) 1)
-      → Shows r vs (remove p ps)
+      → Shows r vs (without_one p ps)
   gone_shows gone =
       let at = remove_slots_law r p ps j t s in_run found idle in
       let one = one_remove r p ps s j in_run found in
       let M : ℕ = many r ps (quotient r p) in
-      let N : ℕ = many r (remove p ps) (quotient r p) in
+      let N : ℕ = many r (without_one p ps) (quotient r p) in
       let P : ℕ = start (many r ps) (quotient r p) + j in
       let u : ℕ = t - 1 in
       let more : M ≡ suc N = one.here in
       -- the run without it starts where it did
-      let same : start (many r (remove p ps)) (quotient r p) + j ≡ P =
-      omega (arith, (remove_law (many r ps) (many r (remove p ps)) (quotient r p) t one idle).before (quotient r p) (omega arith)) in
+      let same : start (many r (without_one p ps)) (quotient r p) + j ≡ P =
+      omega (arith, (remove_law (many r ps) (many r (without_one p ps)) (quotient r p) t one idle).before (quotient r p) (omega arith)) in
       let room : P ≤ u = omega (arith, at.room, same) in
-      let rems = subst (λ x. Slid x u (remainder r p) (remainder_at r (laid r 0 (remove p ps))) (remainder_at r (laid r 0 ps))) same at.remainders in
-      let ends = subst (λ x. SlidEnds x u j N (runend_at r (laid r 0 (remove p ps))) (runend_at r (laid r 0 ps))) same at.ends in
+      let rems = subst (λ x. Slid x u (remainder r p) (remainder_at r (laid r 0 (without_one p ps))) (remainder_at r (laid r 0 ps))) same at.remainders in
+      let ends = subst (λ x. SlidEnds x u j N (runend_at r (laid r 0 (without_one p ps))) (runend_at r (laid r 0 ps))) same at.ends in
       record {
         occupied = λ k. gone.occupied k ∙ ⊎_elim
             (λ (z : k ≡ quotient r p).
             cond-true (eqb k (quotient r p)) (cond (eqb M 1) 0 1) (occupied_bit_in r ws k) (eq-eqb k (quotient r p) z)
-            ∙ only_bit M (omega arith) ∙ ap (λ x. bit (ltb 1 (many r ps x))) (sym z)
-            ∙ sym (cond-true (eqb k (quotient r p)) (bit (ltb 1 (many r ps k))) (occupied_at r ps k) (eq-eqb k (quotient r p) z)))
+            ∙ only_bit M (omega arith) ∙ ap (λ x. one_if (ltb 1 (many r ps x))) (sym z)
+            ∙ sym (cond-true (eqb k (quotient r p)) (one_if (ltb 1 (many r ps k))) (occupied_at r ps k) (eq-eqb k (quotient r p) z)))
             (λ (z : k ≢ quotient r p).
             cond-false (eqb k (quotient r p)) (cond (eqb M 1) 0 1) (occupied_bit_in r ws k) (ne_eqb k (quotient r p) z)
             ∙ shows.occupied k
-            ∙ sym (cond-false (eqb k (quotient r p)) (bit (ltb 1 (many r ps k))) (occupied_at r ps k) (ne_eqb k (quotient r p) z)))
+            ∙ sym (cond-false (eqb k (quotient r p)) (one_if (ltb 1 (many r ps k))) (occupied_at r ps k) (ne_eqb k (quotient r p) z)))
             (cases_eq k (quotient r p)) ∙ sym (remove_occupied_law r p ps j s in_run found k);
-        runends = by_place_down (λ k. runend_in r vs k ≡ runend_at r (laid r 0 (remove p ps)) k) P u room
+        runends = by_place_down (λ k. runend_in r vs k ≡ runend_at r (laid r 0 (without_one p ps)) k) P u room
             (λ k l. ⊎_elim
             (λ (z : suc k ≡ P). gone.end_before k z ∙ ⊎_elim
             (λ (y : (ltb 0 j && eqb (suc j) M) ≡ true).
@@ -126,10 +126,10 @@ module _ (r p : ℕ) (ps ws vs : List ℕ) (j t : ℕ) (s : Sorted ps) (shows : 
             (λ k hi. gone.end_above k hi ∙ shows.runends k ∙ ends.above k hi);
         offsets = λ b.
             let law = remove_offsets_law r p ps j t s in_run found idle (64 * b) in
-            let tests : bit (ltb (quotient r p) (64 * b) && leb (64 * b) u) ≡ bit (ltb (quotient r p) (64 * b) && ltb (64 * b) t) =
-            ap (λ x. bit (ltb (quotient r p) (64 * b) && x)) (up_to (64 * b) t (omega (arith, idle.from))) in
+            let tests : one_if (ltb (quotient r p) (64 * b) && leb (64 * b) u) ≡ one_if (ltb (quotient r p) (64 * b) && ltb (64 * b) t) =
+            ap (λ x. one_if (ltb (quotient r p) (64 * b) && x)) (up_to (64 * b) t (omega (arith, idle.from))) in
             omega (arith, gone.offsets b, shows.offsets b, law, tests);
-        remainders = by_place_down (λ k. remainder_in r vs k ≡ remainder_at r (laid r 0 (remove p ps)) k) P u room
+        remainders = by_place_down (λ k. remainder_in r vs k ≡ remainder_at r (laid r 0 (without_one p ps)) k) P u room
             (λ k l. gone.rem_below k l ∙ shows.remainders k ∙ rems.below k l)
             (λ k lo hi. gone.rem_moved k lo hi ∙ shows.remainders (suc k) ∙ rems.moved k lo hi)
             (gone.rem_gap ∙ sym rems.gap)

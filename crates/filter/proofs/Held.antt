@@ -13,7 +13,7 @@ use Rattle.layout.proofs.Rooms.{any_order_law, bound_law}
 use Rattle.blocks.specs.Views.{Shows}
 use Rattle.blocks.proofs.Forms.{words_from_views, views_from_words}
 use Rattle.blocks.proofs.Readings.{read_back, zeros_show, word_none}
-use Rattle.filter.specs.Meaning.{size_of, held_in, entries_of, Sound}
+use Rattle.filter.specs.Meaning.{size_of, fingerprints_in, entries_of, Sound}
 
 pub sorted_is : (ps : List ℕ) → sorted ps ≡ ps → Sorted ps
 sorted_is ps e = subst Sorted e (sorted_sorted ps)
@@ -113,12 +113,12 @@ facts q r blocks held ps tail ws pos sized order room narrow count is =
     }
 
 -- words that are the layout of the list that they hold are sound
-pub sound_words : (r blocks : ℕ) (ws : List ℕ) → 0 < r → blocks ≤ 16640 → ws ≡ filter_words r blocks (held_in r blocks ws) → sorted (held_in r blocks ws) ≡ held_in r blocks ws
-    → Roomy (64 * blocks) r (held_in r blocks ws) → Sound r blocks ws
+pub sound_words : (r blocks : ℕ) (ws : List ℕ) → 0 < r → blocks ≤ 16640 → ws ≡ filter_words r blocks (fingerprints_in r blocks ws) → sorted (fingerprints_in r blocks ws) ≡ fingerprints_in r blocks ws
+    → Roomy (64 * blocks) r (fingerprints_in r blocks ws) → Sound r blocks ws
 sound_words r blocks ws pos few laid rising roomy = record {
   few = few;
-  sized = ap length laid ∙ words_length r blocks (held_in r blocks ws);
-  rising = sorted_is (held_in r blocks ws) rising;
+  sized = ap length laid ∙ words_length r blocks (fingerprints_in r blocks ws);
+  rising = sorted_is (fingerprints_in r blocks ws) rising;
   roomy = roomy;
-  shows = subst (Shows r ws) rising (views_from_words r (held_in r blocks ws) pos blocks (subst (Roomy (64 * blocks) r) (sym rising) roomy) (omega arith) ws laid);
+  shows = subst (Shows r ws) rising (views_from_words r (fingerprints_in r blocks ws) pos blocks (subst (Roomy (64 * blocks) r) (sym rising) roomy) (omega arith) ws laid);
 }

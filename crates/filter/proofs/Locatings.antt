@@ -3,9 +3,9 @@ use Rattle.std.proofs.Common.{◌≡◌, ℕ, suc, ◌+◌, ◌-◌, ◌*◌, �
 use mathlib.Core.Path.{fun_ext}
 use mir.Val.{bool_byte}
 use Rattle.std.proofs.lemmas.Bool.{cases_lt}
-use Rattle.layout.specs.Rule.{bit, many, laid, offset_at}
-use Rattle.layout.specs.Load.{load, start, busy, tally, FirstFree, FirstIdle, Ends}
-use Rattle.layout.specs.Laws.{Within}
+use Rattle.layout.specs.Rule.{one_if, many, laid, offset_at}
+use Rattle.layout.specs.Load.{load, start, busy, tally, FirstFree, FirstIdle, EndsRuns}
+use Rattle.layout.specs.Laws.{WithinSlots}
 use Rattle.layout.proofs.Bounds.{within_law}
 use Rattle.layout.proofs.Bridge.{layout_law, offset_law}
 use Rattle.layout.proofs.Heads.{start_here, start_after, stop_after}
@@ -15,19 +15,19 @@ use Rattle.layout.proofs.Ranks.{tally_step, tally_mono, rank_is}
 use Rattle.blocks.specs.Views.{occupied_bit_in, runend_in, head_in}
 use Rattle.blocks.specs.Searches.{AfterRunends, FoundNext, open_at}
 use Rattle.blocks.proofs.Tallies.{occupied_few}
-use Rattle.filter.specs.Meaning.{held_in, Sound}
+use Rattle.filter.specs.Meaning.{fingerprints_in, Sound}
 use Rattle.filter.specs.Locating.{RunsAhead}
 
 module _ (r blocks : ℕ) (ws : List ℕ) (sound : Sound r blocks ws) where
   -- how many entries each quotient has
   abbrev pub count : ℕ → ℕ
-  count = many r (held_in r blocks ws)
+  count = many r (fingerprints_in r blocks ws)
 
-  pub within : Within (64 * blocks) r (held_in r blocks ws)
-  within = within_law (64 * blocks) r (held_in r blocks ws) sound.rising sound.roomy
+  pub within : WithinSlots (64 * blocks) r (fingerprints_in r blocks ws)
+  within = within_law (64 * blocks) r (fingerprints_in r blocks ws) sound.rising sound.roomy
 
-  pub ends : Ends count (runend_in r ws)
-  ends x s lo hi = sound.shows.runends s ∙ (layout_law r (held_in r blocks ws) sound.rising).ends x s lo hi
+  pub ends : EndsRuns count (runend_in r ws)
+  ends x s lo hi = sound.shows.runends s ∙ (layout_law r (fingerprints_in r blocks ws) sound.rising).ends x s lo hi
 
   occupied_is : occupied_bit_in r ws ≡ busy count
   occupied_is = fun_ext sound.shows.occupied
@@ -35,8 +35,8 @@ module _ (r blocks : ℕ) (ws : List ℕ) (sound : Sound r blocks ws) where
   pub tally_is : (n : ℕ) → tally (occupied_bit_in r ws) n ≡ tally (busy count) n
   tally_is n = ap (λ f. tally f n) occupied_is
 
-  pub load_is : (x : ℕ) → load count x ≡ offset_at r (laid r 0 (held_in r blocks ws)) x
-  load_is x = sym (offset_law r (held_in r blocks ws) sound.rising x)
+  pub load_is : (x : ℕ) → load count x ≡ offset_at r (laid r 0 (fingerprints_in r blocks ws)) x
+  load_is x = sym (offset_law r (fingerprints_in r blocks ws) sound.rising x)
 
   pub head_is : (b : ℕ) → head_in r ws b ≡ start count (64 * b)
   head_is b = ap (λ n. 64 * b + n) (sound.shows.offsets b ∙ sym (load_is (64 * b)))
@@ -49,7 +49,7 @@ module _ (r blocks : ℕ) (ws : List ℕ) (sound : Sound r blocks ws) where
   pub end_bound : (e : ℕ) → runend_in r ws e ≡ 1 → e < 64 * blocks
   end_bound e one = ⊎_elim (λ (l : e < 64 * blocks). l) (λ (l : 64 * blocks ≤ e). absurd (omega (arith, one, sound.shows.runends e, within.end e l))) (cases_lt e (64 * blocks))
 
-  flag_is : (b : Bool) → bool_byte (eqb (bit b) 1) ≡ bit b
+  flag_is : (b : Bool) → bool_byte (eqb (one_if b) 1) ≡ one_if b
   flag_is true = refl
   flag_is false = refl
 

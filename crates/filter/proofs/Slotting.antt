@@ -3,12 +3,12 @@ use Rattle.std.proofs.Common.{◌≡◌, ℕ, suc, ◌+◌, ◌-◌, ◌*◌, �
 use Rattle.std.proofs.ByRecursion.{All-get_or}
 use Rattle.std.proofs.lemmas.List.{take_more, take_all}
 use Rattle.std.proofs.lemmas.Bool.{cases_lt, cases_eq, cond-true, lt-ltb}
-use Rattle.layout.specs.Rule.{quotient, remainder, Sorted, Entry, laid, remainder_at, run, many, Roomy}
-use Rattle.layout.specs.Load.{load, start, busy, tally, Select, Ends}
+use Rattle.layout.specs.Rule.{quotient, remainder, Sorted, Entry, laid, remainder_at, quotient_run, many, Roomy}
+use Rattle.layout.specs.Load.{load, start, busy, tally, Select, EndsRuns}
 use Rattle.layout.proofs.Bridge.{after_more, at_entry, at_free}
 use Rattle.layout.proofs.Inserts.{whole}
 use Rattle.layout.proofs.Loads.{cell_of, load_none, load_step, start_step, start_mono}
-use Rattle.layout.specs.Places.{after, next_of, slot_of}
+use Rattle.layout.specs.Places.{slot_after, next_of, slot_of}
 use Rattle.layout.proofs.Passes.{at_slot, at_gap, at_end, slot_below}
 use Rattle.layout.proofs.Ranks.{tally_step, tally_mono, rank_is, last_one}
 use Rattle.layout.proofs.Rooms.{select_one_law}
@@ -16,11 +16,11 @@ use Rattle.layout.proofs.Splits.{run_all}
 use Rattle.blocks.specs.Views.{occupied_bit_in, runend_in, remainder_in}
 use Rattle.blocks.specs.Searches.{FoundOccupied, NoOccupied, NthOccupied}
 use Rattle.blocks.specs.declared.Quotient.{Quotient}
-use Rattle.filter.specs.Meaning.{held_in, Sound}
+use Rattle.filter.specs.Meaning.{fingerprints_in, Sound}
 use Rattle.filter.specs.Slots.{slot_shown, HomeBlock, InRun}
 use Rattle.filter.proofs.Locatings.{count, ends, tally_is, upto_few}
 
-module _ (m end : ℕ → ℕ) (ends : Ends m end) where
+module _ (m end : ℕ → ℕ) (ends : EndsRuns m end) where
   -- a used slot lies in the run of some quotient
   pub owner : (s : ℕ) → 0 < load m s + m s → (x : ℕ) × InRun m x s
   owner s used =
@@ -68,7 +68,7 @@ shown_in_run : (r : ℕ) (ps : List ℕ) → Sorted ps → (c j : ℕ) → j < m
     → slot_shown r ps (start (many r ps) c + j) ≡ Some (record { 0 = c }, remainder_at r (laid r 0 ps) (start (many r ps) c + j))
 shown_in_run r ps rising c j l =
     at_entry r (λ p later. Some (record { 0 = quotient r p }, remainder r p)) None ps rising c j l
-    ∙ ap₂ (λ a b. Some (record { 0 = a }, b)) (All-get_or (λ p. quotient r p ≡ c) (run r ps c) j 0 l (run_all r ps c)) (sym (at_entry r (λ p later. remainder r p) 0 ps rising c j l))
+    ∙ ap₂ (λ a b. Some (record { 0 = a }, b)) (All-get_or (λ p. quotient r p ≡ c) (quotient_run r ps c) j 0 l (run_all r ps c)) (sym (at_entry r (λ p later. remainder r p) 0 ps rising c j l))
 
 shown_slot : (r : ℕ) (ps : List ℕ) → Sorted ps → (c s : ℕ) → InRun (many r ps) c s → slot_shown r ps s ≡ Some (record { 0 = c }, remainder_at r (laid r 0 ps) s)
 shown_slot r ps rising c s in_run =
@@ -134,11 +134,11 @@ module _ (r blocks : ℕ) (ws : List ℕ) (sound : Sound r blocks ws) where
 
   -- ---- what the slot shows
 
-  pub free_shows : (s : ℕ) → load m s + m s ≡ 0 → None ≡ slot_shown r (held_in r blocks ws) s
-  free_shows s z = sym (at_free r _ _ (held_in r blocks ws) sound.rising s z)
+  pub free_shows : (s : ℕ) → load m s + m s ≡ 0 → None ≡ slot_shown r (fingerprints_in r blocks ws) s
+  free_shows s z = sym (at_free r _ _ (fingerprints_in r blocks ws) sound.rising s z)
 
-  pub used_shows : (s : ℕ) (c : Quotient) (rem : ℕ) → InRun m c.0 s → rem ≡ remainder_in r ws s → Some (c, rem) ≡ slot_shown r (held_in r blocks ws) s
-  used_shows s c rem in_run is = ap (λ v. Some (c, v)) (is ∙ sound.shows.remainders s) ∙ sym (shown_slot r (held_in r blocks ws) sound.rising c.0 s in_run)
+  pub used_shows : (s : ℕ) (c : Quotient) (rem : ℕ) → InRun m c.0 s → rem ≡ remainder_in r ws s → Some (c, rem) ≡ slot_shown r (fingerprints_in r blocks ws) s
+  used_shows s c rem in_run is = ap (λ v. Some (c, v)) (is ∙ sound.shows.remainders s) ∙ sym (shown_slot r (fingerprints_in r blocks ws) sound.rising c.0 s in_run)
 
 -- ---- all slots in their order
 
@@ -194,7 +194,7 @@ module _ (r : ℕ) (ps : List ℕ) where
         below = λ g. omega (arith, after_more r ps u.i l);
       })
       (cases_lt s (slot_of r ps u.i)))
-      (λ (l : length ps ≤ u.i). absurd (differ _ _ (sym e) (at_end r ps shown None s (omega (arith, u.from, ap (after r 0) (take_all u.i ps l))))))
+      (λ (l : length ps ≤ u.i). absurd (differ _ _ (sym e) (at_end r ps shown None s (omega (arith, u.from, ap (slot_after r 0) (take_all u.i ps l))))))
       (cases_lt u.i (length ps))
 
 -- past the last slot, all are read

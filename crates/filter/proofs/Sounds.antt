@@ -3,7 +3,7 @@ use Rattle.std.proofs.Common.{◌≡◌, ℕ, ◌+◌, ◌-◌, ◌*◌, ◌<◌
 use Rattle.std.proofs.lemmas.Bool.{cond-true, lt-ltb}
 use Rattle.layout.specs.Rule.{quotient, remainder, laid, layout, occupied_at, runend_at, many}
 use Rattle.layout.specs.Load.{start, rank, FirstIdle, Select}
-use Rattle.layout.specs.Laws.{count}
+use Rattle.layout.specs.Laws.{copies_of}
 use Rattle.layout.proofs.Bridge.{layout_law}
 use Rattle.layout.proofs.Ranks.{select_law}
 use Rattle.blocks.specs.Views.{remainder_in}
@@ -33,7 +33,7 @@ end_selects l c e some is =
 
 -- what the search in the run of c for remainder v says of the fingerprint p
 pub none_found : (l : Layout) (p c v : ℕ) → c ≡ quotient (bits_of l) p → v ≡ remainder (bits_of l) p
-    → ((k : ℕ) → k < many_of l c → remainder_in (bits_of l) (words_in l) (start (many_of l) c + k) ≡ v → ⊥) → count p (entries l) ≡ 0
+    → ((k : ℕ) → k < many_of l c → remainder_in (bits_of l) (words_in l) (start (many_of l) c + k) ≡ v → ⊥) → copies_of p (entries l) ≡ 0
 none_found l p c v ec ev h =
     let r = bits_of l in
     let m = many_of l in
@@ -61,7 +61,7 @@ one_found l p c v d from to s ec ev ed starts stops in_run same =
     }
 
 -- a place found means that some entry has the fingerprint
-pub placed_there : (l : Layout) (p c from to s : ℕ) → Placed (bits_of l) (entries l) p c from to s → 0 < count p (entries l)
+pub placed_there : (l : Layout) (p c from to s : ℕ) → Placed (bits_of l) (entries l) p c from to s → 0 < copies_of p (entries l)
 placed_there l p c from to s w =
     one_there (bits_of l) l.count (words_in l) (sound_of l) p (s - from) (omega (arith, w.starts, w.in_run.from, w.in_run.below)) w.found
 

@@ -1,11 +1,11 @@
 -- The writes of one entry, one after another, and what they make of the slots.
 use Rattle.std.proofs.Common.{◌≡◌, ℕ, suc, ◌+◌, ◌-◌, ◌*◌, ◌/◌, ◌^◌, ◌<◌, ◌≤◌, Bool, true, false, cond, not, ◌&&◌, eqb, ltb, leb, ◌≢◌, List, length, sym, refl, ap, ◌∙◌, ⊎_elim, mul-le-mul_right, arith}
 use Rattle.std.proofs.lemmas.Bool.{cases_eq, cases_lt, and_left, and_right, and_parts, ltb-true, leb-true, cond-true, cond-false, eq-eqb, ne_eqb, lt-ltb, le-ltb, le-leb, lt-leb}
-use Rattle.layout.specs.Rule.{bit}
-use Rattle.blocks.specs.Views.{word_index, place_of, occupied_bit_in, runend_in, offset_in, remainder_in}
+use Rattle.layout.specs.Rule.{one_if}
+use Rattle.blocks.specs.Views.{word_index, remainder_place, occupied_bit_in, runend_in, offset_in, remainder_in}
 use Rattle.blocks.proofs.Parts.{head_inside, slot_inside}
 use Rattle.blocks.specs.Writes.{WroteOccupied, WroteRunend, WroteRemainder}
-use Rattle.blocks.specs.Moves.{Within, MovedUp, MovedDown, ChangedOffsets, raised, lowered}
+use Rattle.blocks.specs.Moves.{BlockWithin, MovedUp, MovedDown, ChangedOffsets, raised, lowered}
 use Rattle.filter.specs.Editing.{EntryPut, EntryGone}
 
 -- the blocks whose first slot lies after c, and not after u
@@ -18,16 +18,16 @@ block_tests c u b =
     ap (λ x. x && ltb b (u / 64 + 1)) first ∙ ap (λ x. ltb c (64 * b) && x) second
 
 -- the block of a slot lies within the words where that of a later one does
-within_below : (r : ℕ) (ws : List ℕ) (i s : ℕ) → i ≤ s → Within r ws s → Within r ws i
+within_below : (r : ℕ) (ws : List ℕ) (i s : ℕ) → i ≤ s → BlockWithin r ws s → BlockWithin r ws i
 within_below r ws i s l h =
     let q : i / 64 + 1 ≤ s / 64 + 1 = omega arith in
     omega (arith, mul-le-mul_right (r + 3) q)
 
 -- and so do the words of a slot
-pub head_within : (r : ℕ) (ws : List ℕ) (s u m : ℕ) → s ≤ u → m < 3 → Within r ws u → word_index r (s / 64) m < length ws
+pub head_within : (r : ℕ) (ws : List ℕ) (s u m : ℕ) → s ≤ u → m < 3 → BlockWithin r ws u → word_index r (s / 64) m < length ws
 head_within r ws s u m l g h = omega (arith, within_below r ws s u l h, head_inside r (s / 64) (s / 64 + 1) m (omega arith) g)
 
-pub slot_within : (r : ℕ) (ws : List ℕ) (s u : ℕ) → s ≤ u → Within r ws u → place_of r s + r ≤ 64 * length ws
+pub slot_within : (r : ℕ) (ws : List ℕ) (s u : ℕ) → s ≤ u → BlockWithin r ws u → remainder_place r s + r ≤ 64 * length ws
 slot_within r ws s u l h = omega (arith, within_below r ws s u l h, slot_inside r s (s / 64 + 1) (omega arith))
 
 -- a bit that is written at p stands there, and elsewhere the old one
@@ -106,7 +106,7 @@ module _ (r : ℕ) (w0 w1 w2 w3 w4 w5 w6 : List ℕ) (c p u v : ℕ) where
             ∙ ap (λ n. cond (ltb c (64 * b) && leb (64 * b) u) (raised n) n) (same b) ∙ one_more (ltb c (64 * b) && leb (64 * b) u) (offset_in r w0 b) (few b);
       }
     where
-      one_more : (t : Bool) (n : ℕ) → n < 2 ^ 32 → cond t (raised n) n ≡ n + bit t
+      one_more : (t : Bool) (n : ℕ) → n < 2 ^ 32 → cond t (raised n) n ≡ n + one_if t
       one_more true n l = omega arith
       one_more false n l = omega arith
 
@@ -136,7 +136,7 @@ module _ (r : ℕ) (w0 w1 w2 w3 w4 w5 w6 : List ℕ) (c p u v : ℕ) where
             let t : Bool = ltb c (64 * b) && leb (64 * b) u in
             let down : offset_in r w6 b ≡ cond t (lowered (offset_in r w0 b)) (offset_in r w0 b) =
             offs.offsets b ∙ ap (λ x. cond x (lowered (offset_in r w5 b)) (offset_in r w5 b)) (block_tests c u b) ∙ ap (λ n. cond t (lowered n) n) (same b) in
-            ap (λ n. n + bit t) down ∙ one_less t (offset_in r w0 b)
+            ap (λ n. n + one_if t) down ∙ one_less t (offset_in r w0 b)
             (λ e. let both = and_parts (ltb c (64 * b)) (leb (64 * b) u) e in waits b (ltb-true c (64 * b) both.0) (leb-true (64 * b) u both.1));
       }
     where
@@ -144,6 +144,6 @@ module _ (r : ℕ) (w0 w1 w2 w3 w4 w5 w6 : List ℕ) (c p u v : ℕ) where
       turned true = refl
       turned false = refl
 
-      one_less : (t : Bool) (n : ℕ) → (t ≡ true → 0 < n) → cond t (lowered n) n + bit t ≡ n
+      one_less : (t : Bool) (n : ℕ) → (t ≡ true → 0 < n) → cond t (lowered n) n + one_if t ≡ n
       one_less true n l = omega (arith, l refl)
       one_less false n l = omega arith

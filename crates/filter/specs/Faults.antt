@@ -4,8 +4,8 @@ use Rattle.filter.specs.declared.fault.FilterFault.{FilterFault}
 use Rattle.filter.specs.declared.fault.FilterFault.TheVariants.{BadPlan, WideFingerprint, NoSlot, NoSuchFingerprint}
 
 -- the number that a customer sees
-abbrev pub number_of : FilterFault → ℕ
-number_of BadPlan = 10
-number_of WideFingerprint = 12
-number_of NoSlot = 20
-number_of NoSuchFingerprint = 21
+abbrev pub filter_fault_number : FilterFault → ℕ
+filter_fault_number BadPlan = 10
+filter_fault_number WideFingerprint = 12
+filter_fault_number NoSlot = 20
+filter_fault_number NoSuchFingerprint = 21

@@ -1,9 +1,9 @@
 -- A filter's meaning, and what its calls promise.
 use Rattle.std.specs.Prelude.{◌≡◌, ℕ, ◌+◌, ◌*◌, ◌^◌, ◌<◌, ◌≤◌, Bool, List, [], ◌∷◌, ◌++◌, length, take, drop, replicate, Ok, Err, Result, nat_lt, slice_index}
 use Rattle.std.specs.Borrow.{MutBor}
-use Rattle.layout.specs.Rule.{quotient, sorted, insert, remove, layout, used_at, Crowded, Roomy}
+use Rattle.layout.specs.Rule.{quotient, sorted, with_one, without_one, layout, used_at, Crowded, Roomy}
 use Rattle.layout.specs.Format.{block_count, filter_words}
-use Rattle.layout.specs.Laws.{count}
+use Rattle.layout.specs.Laws.{copies_of}
 use Rattle.filter.specs.Meaning.{size_of, entries_of}
 use Rattle.filter.specs.declared.fault.FilterFault.{FilterFault}
 use Rattle.filter.specs.declared.fault.FilterFault.TheVariants.{BadPlan, WideFingerprint, NoSlot, NoSuchFingerprint}
@@ -86,19 +86,19 @@ abbrev pub FullFrom : Filter → ℕ → Type 0
 FullFrom f c = (u : ℕ) → c ≤ u → u < slots_of f → used_at (layout f.plan.r (fingerprints f)) u ≡ 1
 
 -- whether an entry of f has fingerprint p
-abbrev pub Answered : Filter → ℕ → Result Bool FilterFault → Type 0
-Answered f p (Ok there) = (p < 2 ^ (f.plan.q + f.plan.r)) × (there ≡ nat_lt 0 (count p (fingerprints f)))
-Answered f p (Err WideFingerprint) = 2 ^ (f.plan.q + f.plan.r) ≤ p
-Answered f p (Err NoSlot) = ⊥
-Answered f p (Err BadPlan) = ⊥
-Answered f p (Err NoSuchFingerprint) = ⊥
+abbrev pub SaysWhether : Filter → ℕ → Result Bool FilterFault → Type 0
+SaysWhether f p (Ok there) = (p < 2 ^ (f.plan.q + f.plan.r)) × (there ≡ nat_lt 0 (copies_of p (fingerprints f)))
+SaysWhether f p (Err WideFingerprint) = 2 ^ (f.plan.q + f.plan.r) ≤ p
+SaysWhether f p (Err NoSlot) = ⊥
+SaysWhether f p (Err BadPlan) = ⊥
+SaysWhether f p (Err NoSuchFingerprint) = ⊥
 
 -- What one more entry of p makes of filter f: g. It is refused a slot where some quotient is crowded with the newcomer counted, and so where no slot from
 -- its quotient on is free.
 abbrev pub Added : Filter → Filter → ℕ → Result (Unit {0}) FilterFault → Type 0
 Added f g p (Ok done) =
     (p < 2 ^ (f.plan.q + f.plan.r)) × Roomy (slots_of f) f.plan.r (p ∷ fingerprints f) × FreeFrom f (quotient f.plan.r p)
-    × (fingerprints g ≡ insert p (fingerprints f)) × (words_of g ≡ laid_over f.plan.r f.blocks (p ∷ fingerprints f) (words_of f))
+    × (fingerprints g ≡ with_one p (fingerprints f)) × (words_of g ≡ laid_over f.plan.r f.blocks (p ∷ fingerprints f) (words_of f))
 Added f g p (Err WideFingerprint) = (2 ^ (f.plan.q + f.plan.r) ≤ p) × (g ≡ f)
 Added f g p (Err NoSlot) =
     (p < 2 ^ (f.plan.q + f.plan.r)) × Crowds f.plan (slots_of f) (p ∷ fingerprints f) × FullFrom f (quotient f.plan.r p) × (g ≡ f)
@@ -108,9 +108,9 @@ Added f g p (Err NoSuchFingerprint) = ⊥
 -- What one entry of p less makes of filter f: g.
 abbrev pub Taken : Filter → Filter → ℕ → Result (Unit {0}) FilterFault → Type 0
 Taken f g p (Ok done) =
-    (p < 2 ^ (f.plan.q + f.plan.r)) × (0 < count p (fingerprints f))
-    × (fingerprints g ≡ remove p (fingerprints f)) × (words_of g ≡ laid_over f.plan.r f.blocks (remove p (fingerprints f)) (words_of f))
+    (p < 2 ^ (f.plan.q + f.plan.r)) × (0 < copies_of p (fingerprints f))
+    × (fingerprints g ≡ without_one p (fingerprints f)) × (words_of g ≡ laid_over f.plan.r f.blocks (without_one p (fingerprints f)) (words_of f))
 Taken f g p (Err WideFingerprint) = (2 ^ (f.plan.q + f.plan.r) ≤ p) × (g ≡ f)
-Taken f g p (Err NoSuchFingerprint) = (p < 2 ^ (f.plan.q + f.plan.r)) × (count p (fingerprints f) ≡ 0) × (g ≡ f)
+Taken f g p (Err NoSuchFingerprint) = (p < 2 ^ (f.plan.q + f.plan.r)) × (copies_of p (fingerprints f) ≡ 0) × (g ≡ f)
 Taken f g p (Err NoSlot) = ⊥
 Taken f g p (Err BadPlan) = ⊥

@@ -2,7 +2,7 @@
 use Rattle.std.specs.Prelude.{◌≡◌, ℕ, ◌*◌, List, take}
 use Rattle.layout.specs.Rule.{many}
 use Rattle.blocks.specs.Views.{runend_in, remainder_in}
-use Rattle.filter.specs.Meaning.{size_of, held_in}
+use Rattle.filter.specs.Meaning.{size_of, fingerprints_in}
 use Rattle.filter.specs.Filters.{words_of}
 use Rattle.filter.specs.declared.laid.Layout.{Layout}
 use Rattle.filter.specs.declared.filter.Filter.{Filter}
@@ -17,7 +17,7 @@ words_in l = l.blocks.words.now
 
 -- its entries, in rising order
 abbrev pub entries : Layout → List ℕ
-entries l = held_in (bits_of l) l.count (words_in l)
+entries l = fingerprints_in (bits_of l) l.count (words_in l)
 
 -- how many of them each quotient has
 abbrev pub many_of : Layout → ℕ → ℕ

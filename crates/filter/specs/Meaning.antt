@@ -8,17 +8,17 @@ abbrev pub size_of : ℕ → ℕ → ℕ
 size_of r blocks = blocks * (r + 3)
 
 -- the fingerprints that the words of that many blocks hold, in rising order
-abbrev pub held_in : ℕ → ℕ → List ℕ → List ℕ
-held_in r blocks ws = read_entries r (64 * blocks) ws
+abbrev pub fingerprints_in : ℕ → ℕ → List ℕ → List ℕ
+fingerprints_in r blocks ws = read_entries r (64 * blocks) ws
 
 -- the same of the words of a filter, of which those after its blocks are none of its own
 abbrev pub entries_of : ℕ → ℕ → List ℕ → List ℕ
-entries_of r blocks ws = held_in r blocks (take (size_of r blocks) ws)
+entries_of r blocks ws = fingerprints_in r blocks (take (size_of r blocks) ws)
 
 -- just the words of that many blocks, and they hold a layout
 pub record Sound (r blocks : ℕ) (ws : List ℕ) : Type 0 where
   pub few : blocks ≤ 16640
   pub sized : length ws ≡ size_of r blocks
-  pub rising : Sorted (held_in r blocks ws)
-  pub roomy : Roomy (64 * blocks) r (held_in r blocks ws)
-  pub shows : Shows r ws (held_in r blocks ws)
+  pub rising : Sorted (fingerprints_in r blocks ws)
+  pub roomy : Roomy (64 * blocks) r (fingerprints_in r blocks ws)
+  pub shows : Shows r ws (fingerprints_in r blocks ws)

@@ -1,13 +1,13 @@
 -- What single slots show.
 use Rattle.std.specs.Prelude.{◌≡◌, ℕ, ◌+◌, ◌*◌, ◌<◌, ◌≤◌, List, Some, None, Option}
-use Rattle.layout.specs.Rule.{quotient, remainder, laid, layout, at, occupied_at, runend_at}
+use Rattle.layout.specs.Rule.{quotient, remainder, laid, layout, reading_at, occupied_at, runend_at}
 use Rattle.layout.specs.Load.{start, rank, Select}
 use Rattle.blocks.specs.declared.Quotient.{Quotient}
 use Rattle.blocks.specs.declared.Slot.{Slot}
 
 -- what slot s shows: the quotient and the remainder of its entry, or none where it is free
 abbrev pub slot_shown : ℕ → List ℕ → ℕ → Option (Quotient × ℕ)
-slot_shown r ps s = at (λ p later. Some (record { 0 = quotient r p }, remainder r p)) None (laid r 0 ps) s
+slot_shown r ps s = reading_at (λ p later. Some (record { 0 = quotient r p }, remainder r p)) None (laid r 0 ps) s
 
 -- slot s lies at or after the head of block a and before that of the next block
 pub record HomeBlock (m : ℕ → ℕ) (s a : ℕ) : Type 0 where

@@ -1,7 +1,7 @@
 //! Puts one entry into the words of a filter's blocks, or takes one out: the entries between move by one slot.
 ghost use Rattle.std.specs.Prelude.{◌≡◌, ℕ, ◌*◌, ◌^◌, ◌<◌, ◌≤◌, true, slice_index};
 ghost use Rattle.blocks.specs.Views.{offset_in};
-ghost use Rattle.blocks.specs.Moves.{Within};
+ghost use Rattle.blocks.specs.Moves.{BlockWithin};
 ghost use Rattle.filter.specs.Editing.{EntryPut, EntryGone};
 
 use blocks::{
@@ -40,7 +40,7 @@ pub(crate) struct Departure {
 /// Puts an entry where it comes.
 // kept: words and width apart, as in all that writes (crate blocks).
 pub(crate) fn put_entry(words: &mut [u64], width: Width, entry: Arrival)
-    requires room { Within width.bits words.old entry.free.0 }
+    requires room { BlockWithin width.bits words.old entry.free.0 }
     requires small { entry.remainder < 2 ^ width.bits }
     requires few { (b : ℕ) → offset_in width.bits words.old b < 2 ^ 32 }
     ensures put { EntryPut width.bits words.old words.new entry.quotient.0 entry.at.0 entry.free.0 entry.remainder entry.ends entry.follows }
@@ -59,7 +59,7 @@ pub(crate) fn put_entry(words: &mut [u64], width: Width, entry: Arrival)
 
 /// Takes an entry out. Slot `gap` is then free.
 pub(crate) fn take_entry(words: &mut [u64], width: Width, entry: Departure)
-    requires room { Within width.bits words.old entry.gap.0 }
+    requires room { BlockWithin width.bits words.old entry.gap.0 }
     requires waits { (b : ℕ) → entry.quotient.0 < 64 * b → 64 * b ≤ entry.gap.0 → 0 < offset_in width.bits words.old b }
     ensures gone { EntryGone width.bits words.old words.new entry.quotient.0 entry.at.0 entry.gap.0 entry.follows entry.only }
     ensures bits { (k : ℕ) → slice_index words.new k < 2 ^ 64 }

@@ -1,5 +1,5 @@
 ghost use Rattle.std.specs.Prelude.{◌≡◌, Some, decimal};
-ghost use Rattle.filter.specs.Faults.{number_of};
+ghost use Rattle.filter.specs.Faults.{filter_fault_number};
 
 use std::error::Error;
 use std::fmt;
@@ -20,7 +20,7 @@ pub enum FilterFault {
 impl FilterFault {
     /// The number that a customer sees.
     pub fn number(self) -> u32
-        ensures { result ≡ number_of self }
+        ensures { result ≡ filter_fault_number self }
     {
         match self {
             FilterFault::BadPlan => 10,
@@ -33,7 +33,7 @@ impl FilterFault {
 
 // kept: Display is implemented for one type at a time, and no macro of the repository may write impls.
 impl fmt::Display for FilterFault {
-    ghost output = { λ e. Some (decimal (number_of e)) };
+    ghost output = { λ e. Some (decimal (filter_fault_number e)) };
 
     fn fmt<W: fmt::Write>(&self, f: &mut fmt::Formatter<W>) -> fmt::Result {
         write!(f, "{}", self.number())

@@ -2,7 +2,7 @@
 ghost use Rattle.std.specs.Prelude.{◌≡◌, ◌*◌, ◌≤◌};
 ghost use Rattle.layout.specs.Rule.{sorted, Roomy};
 ghost use Rattle.layout.specs.Format.{filter_words};
-ghost use Rattle.filter.specs.Meaning.{held_in};
+ghost use Rattle.filter.specs.Meaning.{fingerprints_in};
 
 use blocks::Blocks;
 
@@ -17,7 +17,11 @@ pub(crate) struct Layout<'a> {
     pub(crate) blocks: Blocks<'a>,
     pub(crate) count: u32,
     ghost few: { count ≤ 16640 },
-    ghost laid: { blocks.words.now ≡ filter_words blocks.width.bits count (held_in blocks.width.bits count blocks.words.now) },
-    ghost rising: { sorted (held_in blocks.width.bits count blocks.words.now) ≡ held_in blocks.width.bits count blocks.words.now },
-    ghost roomy: { Roomy (64 * count) blocks.width.bits (held_in blocks.width.bits count blocks.words.now) },
+    ghost laid: { blocks.words.now
+        ≡ filter_words blocks.width.bits count
+        (fingerprints_in blocks.width.bits count blocks.words.now) },
+    ghost rising: { sorted (fingerprints_in blocks.width.bits count blocks.words.now)
+        ≡ fingerprints_in blocks.width.bits count blocks.words.now },
+    ghost roomy: { Roomy (64 * count) blocks.width.bits
+        (fingerprints_in blocks.width.bits count blocks.words.now) },
 }

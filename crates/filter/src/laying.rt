@@ -4,7 +4,7 @@ ghost use Rattle.layout.specs.Rule.{sorted, Roomy, quotient, remainder, laid, ru
 ghost use Rattle.layout.specs.Format.{filter_words};
 ghost use Rattle.layout.specs.Places.{slot_of, next_of};
 ghost use Rattle.blocks.specs.Views.{Shows};
-ghost use Rattle.blocks.specs.Moves.{Within};
+ghost use Rattle.blocks.specs.Moves.{BlockWithin};
 ghost use Rattle.filter.specs.Meaning.{size_of};
 ghost use Rattle.filter.specs.Laying.{Entered, EntriesLaid};
 
@@ -14,7 +14,7 @@ use words::Width;
 
 /// Writes one entry of the fingerprint `p` into slot `s`; `last` where it ends the run of its quotient.
 fn lay_entry(words: &mut [u64], width: Width, p: u64, s: Slot, last: bool)
-    requires within { Within width.bits words.old s.0 }
+    requires within { BlockWithin width.bits words.old s.0 }
     requires below { quotient width.bits p ≤ s.0 }
     ensures { Entered width.bits words.old words.new (quotient width.bits p) s.0 (remainder width.bits p) (if last then 1 else 0) }
 {

@@ -5,10 +5,10 @@ use Rattle.figures.proofs.Words.{apart}
 use Rattle.filterlog.specs.declared.commands.Command.{Command}
 use Rattle.filterlog.specs.declared.commands.Command.TheVariants.{Add, Take, Ask}
 use Rattle.filterlog.specs.declared.commands.Question.TheVariants.{Has, Held, Slot, Words, List as Listed}
-use Rattle.filterlog.specs.Commands.{Numbered, Says}
+use Rattle.filterlog.specs.Commands.{WordAndNumber, Says}
 
 -- no number is written after the word
-none_numbered : (xs word ds : List ℕ) (n : ℕ) → ((es : List ℕ) → word ++ (32 ∷ ds) ≡ word ++ (32 ∷ es) → ds ≡ es) → xs ≡ word ++ (32 ∷ ds) → Natural ds None → Numbered word xs n → ⊥
+none_numbered : (xs word ds : List ℕ) (n : ℕ) → ((es : List ℕ) → word ++ (32 ∷ ds) ≡ word ++ (32 ∷ es) → ds ≡ es) → xs ≡ word ++ (32 ∷ ds) → Natural ds None → WordAndNumber word xs n → ⊥
 none_numbered xs word ds n same e none (es, f, (g, small)) = none n small (subst (λ l. Figure l n) (sym (same es (sym e ∙ f))) g)
 
 pub no_add : (xs ds : List ℕ) → xs ≡ 97 ∷ 100 ∷ 100 ∷ 32 ∷ ds → Natural ds None → (c : Command) → Says xs c → ⊥

@@ -7,13 +7,13 @@ use Rattle.console.specs.declared.fault.Fault.{Fault}
 use Rattle.console.specs.declared.fault.Fault.TheVariants.{Memory, Stream, Arguments, Filter as Refuses}
 use Rattle.console.specs.declared.request.Request.{Request}
 use Rattle.console.proofs.Sendings.{begins_after}
-use Rattle.filterlog.specs.Runs.{LineDone}
-use Rattle.filterlog.specs.Logs.{Begun, Started, InRange, LogDone}
+use Rattle.filterlog.specs.Runs.{LinePrinted}
+use Rattle.filterlog.specs.Logs.{FilterBegun, Started, PlanInRange, LogDone}
 use Rattle.filterlog.proofs.Growing.{Sofar, sofar_more}
 
 -- the lines so far are the first of the log
 started : (request : Request) (left : Option (List ℕ)) (log : List ℕ) (all coming : List (List ℕ)) (before after : Filter) (said : List ℕ)
-    → IfSome left (λ bytes. log ≡ bytes) → Begun request before → all ≡ lines_of log → Sofar all coming before after said → Started request left said
+    → IfSome left (λ bytes. log ≡ bytes) → FilterBegun request before → all ≡ lines_of log → Sofar all coming before after said → Started request left said
 started request left log all coming before after said read begun same (answered, whole, ran) =
     record {
       log = log;
@@ -28,8 +28,8 @@ started request left log all coming before after said read begun same (answered,
     }
 
 pub stopped : (request : Request) (left rest o p q : Option (List ℕ)) (log : List ℕ) (all coming more : List (List ℕ)) (line : List ℕ) (before f g : Filter) (said : List ℕ) (fault : Fault)
-    → InRange request → IfSome left (λ bytes. log ≡ bytes) → Begun request before → all ≡ lines_of log → Sofar all coming before f said → Appends o p said
-    → coming ≡ line ∷ more → LineDone line f g p q (Err fault) → LogDone (Some request) left rest o q (Err fault)
+    → PlanInRange request → IfSome left (λ bytes. log ≡ bytes) → FilterBegun request before → all ≡ lines_of log → Sofar all coming before f said → Appends o p said
+    → coming ≡ line ∷ more → LinePrinted line f g p q (Err fault) → LogDone (Some request) left rest o q (Err fault)
 stopped request left rest o p q log all coming more line before f g said Memory range read begun same sofar shown e (question, asked, kept, none) =
     (range, inr (said, started request left log all coming before f said read begun same sofar, subst (λ x. Appends o x said) (sym none) shown))
 stopped request left rest o p q log all coming more line before f g said Stream range read begun same sofar shown e (text, ran, begins) =

@@ -3,7 +3,7 @@ ghost use Rattle.std.specs.Prelude.{◌≡◌, [], ◌∷◌, IfOk, Some};
 ghost use Rattle.std.specs.Fmt.{decimal};
 ghost use Rattle.std.specs.List.{join_by};
 ghost use Rattle.filterlog.specs.Answers.{has_text, answer_text};
-ghost use Rattle.filterlog.specs.Runs.{Told};
+ghost use Rattle.filterlog.specs.Runs.{QuestionAnswered};
 
 use crate::commands::Question;
 use console::program::Refused;
@@ -84,7 +84,7 @@ impl<'a> Answer<'a> {
         filter: &'a Filter<'_>,
         question: Question,
     ) -> Result<Answer<'a>, AllocError>
-        ensures { IfOk result (λ a. Told filter.now question (answer_text a)) }
+        ensures { IfOk result (λ a. QuestionAnswered filter.now question (answer_text a)) }
     {
         Ok(match question {
             Question::Has(n) => Answer::found(filter.has(n)),

@@ -5,7 +5,7 @@ ghost use Rattle.std.specs.Prelude.{None, OnOk};
 ghost use Rattle.std.specs.Io.KnownBytes.{IsAtEnd};
 ghost use Rattle.console.specs.Sending.{Sent};
 ghost use Rattle.filterlog.specs.Answers.{edit_text};
-ghost use Rattle.filterlog.specs.Runs.{QuestionDone, LineDone};
+ghost use Rattle.filterlog.specs.Runs.{QuestionDone, LinePrinted};
 ghost use Rattle.filterlog.specs.Logs.{LogDone};
 
 mod answers;
@@ -62,7 +62,7 @@ fn print_answer<W: Write>(
     filter: &mut Filter<'_>,
     line: &[u8],
 ) -> Result<(), Fault>
-    ensures { LineDone line.now filter.old filter.new (W.contents out.old) (W.contents out.new)
+    ensures { LinePrinted line.now filter.old filter.new (W.contents out.old) (W.contents out.new)
         result }
 {
     match command_of(line) {

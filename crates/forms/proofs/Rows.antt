@@ -5,7 +5,7 @@ use Rattle.std.proofs.lemmas.Str.Parse.{digit_from_value}
 use Rattle.figures.specs.Figures.{Figure, Stops, Read, NoFigure}
 use Rattle.figures.proofs.Runs.{same_run, space_stops}
 use Rattle.forms.specs.declared.row.Row.{Row}
-use Rattle.forms.specs.Rows.{Series, Numbers, Ends, Held, Rowed, NoRow}
+use Rattle.forms.specs.Rows.{Series, Numbers, EndsRow, Held, Rowed, NoRow}
 
 -- what follows the space after a figure is shorter
 pub shorter : (xs rest : List ℕ) (v : ℕ) → Read xs v rest → length (take (length rest - 1) (drop 1 rest)) < length xs
@@ -20,7 +20,7 @@ digit_next (c ∷ (d ∷ ds)) some p q h = h p q
 pub goes_on : (rest : List ℕ) → 1 < length rest → 48 ≤ get_or rest 1 0 → get_or rest 1 0 ≤ 57 → Stops (take (length rest - 1) (drop 1 rest)) → ⊥
 goes_on rest some p q h = digit_next rest some p q (subst Stops (take_rest rest 1) h)
 
-pub ends_at : (rest : List ℕ) → Stops rest → (1 < length rest → get_or rest 0 0 ≡ 32 → 48 ≤ get_or rest 1 0 → get_or rest 1 0 ≤ 57 → ⊥) → Ends rest
+pub ends_at : (rest : List ℕ) → Stops rest → (1 < length rest → get_or rest 0 0 ≡ 32 → 48 ≤ get_or rest 1 0 → get_or rest 1 0 ≤ 57 → ⊥) → EndsRow rest
 ends_at rest stops h = record { stops = stops; apart = apart }
   where
     apart : (more : List ℕ) → rest ≡ 32 ∷ more → Stops more
@@ -29,7 +29,7 @@ ends_at rest stops h = record { stops = stops; apart = apart }
         let second : get_or rest 1 0 ≡ c = ap (λ l. get_or l 1 0) e in
         h (omega (arith, ap length e)) (ap (λ l. get_or l 0 0) e) (omega arith) (omega arith)
 
-pub row_alone : (xs rest : List ℕ) (v : ℕ) (row : Option Row) → (r : Read xs v rest) → Ends rest → Held row (r.named ∷ []) → Rowed xs row rest
+pub row_alone : (xs rest : List ℕ) (v : ℕ) (row : Option Row) → (r : Read xs v rest) → EndsRow rest → Held row (r.named ∷ []) → Rowed xs row rest
 unfolding Series
 row_alone xs rest v row r ends held = record { numbers = r.named ∷ []; shown = r.shown; written = r.figure; whole = r.whole; ends = ends; held = held }
 
@@ -50,7 +50,7 @@ row_more xs rest more tail v row longer r e h held =
     }
 
 -- the figure that a row begins with, and what follows it: what follows the row, or a space and a row
-parted : (xs shown rest : List ℕ) (ns : List ℕ) → Numbers shown ns → Ends rest → xs ≡ shown ++ rest → (P : Type 0) →
+parted : (xs shown rest : List ℕ) (ns : List ℕ) → Numbers shown ns → EndsRow rest → xs ≡ shown ++ rest → (P : Type 0) →
     ((n : ℕ) → Figure shown n → P) → ((ds more : List ℕ) (n m : ℕ) (ms : List ℕ) → Figure ds n → Numbers more (m ∷ ms) → xs ≡ ds ++ (32 ∷ (more ++ rest)) → P) → P
 unfolding Series
 parted xs shown rest [] h ends e P single several = absurd h
@@ -85,7 +85,7 @@ digit_first xs rest n (m ∷ ms) (c ∷ cs, more, f, e, h) stops =
     let d = digit_from_value c f.digits.0 in subst (λ l. Stops (l ++ rest)) e stops d.0 d.1
 
 -- there is one way to part a row from what follows it
-pub same_row : (s r t u : List ℕ) (ns ms : List ℕ) → Numbers s ns → Ends r → Numbers t ms → Ends u → s ++ r ≡ t ++ u → r ≡ u
+pub same_row : (s r t u : List ℕ) (ns ms : List ℕ) → Numbers s ns → EndsRow r → Numbers t ms → EndsRow u → s ++ r ≡ t ++ u → r ≡ u
 unfolding Series
 same_row s r t u [] ms h p k q e = absurd h
 same_row s r t u (n ∷ ns) [] h p k q e = absurd k
@@ -105,9 +105,9 @@ same_row s r t u (n ∷ (a ∷ cs)) (m ∷ (b ∷ bs)) (ds, more, f, w, h) p (es
     let next : more ++ r ≡ less ++ u = cc in
     same_row more r less u (a ∷ cs) (b ∷ bs) h p k q next
 
-pub ends_nil : Ends []
+pub ends_nil : EndsRow []
 ends_nil = record { stops = tt; apart = λ more e. absurd (let z : ◌≡◌ {A = ℕ} 0 1 = cc in omega arith) }
 
 -- the word `as` ends a row
-pub ends_as : (last : List ℕ) → Ends (codes " as " ++ last)
+pub ends_as : (last : List ℕ) → EndsRow (codes " as " ++ last)
 ends_as last = record { stops = space_stops (codes "as " ++ last); apart = λ more e. let same : codes "as " ++ last ≡ more = cc in subst Stops same (λ p q. omega arith) }

@@ -5,7 +5,7 @@ use Rattle.history.specs.declared.operation.Operation.TheVariants.{Put, Drop, Fi
 use Rattle.kinds.specs.declared.sequence.Sequence.{Sequence}
 use Rattle.kinds.specs.declared.ligature.KeyFault.TheVariants.{BadSequence}
 use Rattle.kinds.specs.Sequences.{glyphs_of, two_to_four}
-use Rattle.figures.specs.Numbers.{Glyph, Within}
+use Rattle.figures.specs.Numbers.{Glyph, FitsValue}
 use Rattle.forms.specs.declared.command.Command.{Command}
 use Rattle.forms.specs.declared.command.Command.TheVariants.{Kern, Ligature}
 use Rattle.forms.specs.declared.fault.LineFault.{LineFault}
@@ -14,7 +14,7 @@ use Rattle.forms.specs.Shapes.{Shape, pair, drop, find, lig, unlig, seek, Writte
 
 -- all numbers are in their ranges
 abbrev pub InRange : Shape → Type 0
-InRange (pair a b z) = Glyph a × Glyph b × Within z
+InRange (pair a b z) = Glyph a × Glyph b × FitsValue z
 InRange (drop a b) = Glyph a × Glyph b
 InRange (find a b) = Glyph a × Glyph b
 InRange (lig gs g) = Every Glyph gs × Glyph g

@@ -18,14 +18,14 @@ Numbers bytes [] = ⊥
 Numbers bytes (n ∷ ns) = Series bytes n ns
 
 -- a row ends here: neither a digit nor a space and a digit comes next
-pub record Ends (rest : List ℕ) : Type 0 where
+pub record EndsRow (rest : List ℕ) : Type 0 where
   pub stops : Stops rest
   pub apart : (more : List ℕ) → rest ≡ 32 ∷ more → Stops more
 
 -- the glyph number that n is, or none
-abbrev pub Numbered : Option ℕ → ℕ → Type 0
-Numbered None n = 65535 < n
-Numbered (Some g) n = (g ≡ n) × Glyph n
+abbrev pub GlyphOf : Option ℕ → ℕ → Type 0
+GlyphOf None n = 65535 < n
+GlyphOf (Some g) n = (g ≡ n) × Glyph n
 
 -- what the row keeps of the numbers: all, where they are four or fewer
 abbrev pub Keeps : Row → List ℕ → Type 0
@@ -44,9 +44,9 @@ pub record Rowed (bytes : List ℕ) (row : Option Row) (rest : List ℕ) : Type 
   pub shown : List ℕ
   pub written : Numbers shown numbers
   pub whole : bytes ≡ shown ++ rest
-  pub ends : Ends rest
+  pub ends : EndsRow rest
   pub held : Held row numbers
 
 -- bytes begin with no row of numbers
 abbrev pub NoRow : List ℕ → Type 0
-NoRow bytes = (ns shown rest : List ℕ) → Numbers shown ns → Ends rest → bytes ≢ shown ++ rest
+NoRow bytes = (ns shown rest : List ℕ) → Numbers shown ns → EndsRow rest → bytes ≢ shown ++ rest

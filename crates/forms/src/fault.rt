@@ -1,5 +1,5 @@
 ghost use Rattle.std.specs.Prelude.{◌≡◌, Some, decimal};
-ghost use Rattle.forms.specs.Faults.{number_of, of_figure};
+ghost use Rattle.forms.specs.Faults.{line_fault_number, of_figure};
 ghost use Rattle.forms.specs.declared.fault.LineFault.TheVariants.{Key};
 
 use figures::FigureFault;
@@ -23,7 +23,7 @@ pub enum LineFault {
 impl LineFault {
     /// The number that a customer sees.
     pub fn number(self) -> u32
-        ensures { result ≡ number_of self }
+        ensures { result ≡ line_fault_number self }
     {
         match self {
             LineFault::LongLine => 53,
@@ -37,7 +37,7 @@ impl LineFault {
 /// The number that a customer sees, as it is printed.
 // kept: Display is implemented for one type at a time, and no macro of the repository may write impls.
 impl fmt::Display for LineFault {
-    ghost output = { λ f. Some (decimal (number_of f)) };
+    ghost output = { λ f. Some (decimal (line_fault_number f)) };
 
     fn fmt<W: fmt::Write>(&self, f: &mut fmt::Formatter<W>) -> fmt::Result {
         write!(f, "{}", self.number())

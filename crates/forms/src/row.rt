@@ -3,7 +3,7 @@ ghost use Rattle.std.specs.Prelude.{◌≡◌, ℕ, List, ◌∷◌, length, fal
 ghost use Rattle.kinds.specs.Sequences.{glyphs_of, two_to_four};
 ghost use Rattle.kinds.specs.declared.ligature.KeyFault.TheVariants.{BadSequence};
 ghost use Rattle.figures.specs.declared.FigureFault.TheVariants.{Unreadable};
-ghost use Rattle.forms.specs.Rows.{Numbered, Keeps, Held, Rowed, NoRow};
+ghost use Rattle.forms.specs.Rows.{GlyphOf, Keeps, Held, Rowed, NoRow};
 
 use figures::{FigureFault, figure, glyph_number};
 use kinds::{KeyFault, Sequence};
@@ -47,7 +47,7 @@ impl Row {
 
 // The row with a number more in front, if all are glyph numbers.
 fn longer(glyph: Option<u16>, row: Option<Row>) -> Option<Row>
-    ensures { (n : ℕ) (ns : List ℕ) → Numbered glyph n → Held row ns → Held result (n ∷ ns) }
+    ensures { (n : ℕ) (ns : List ℕ) → GlyphOf glyph n → Held row ns → Held result (n ∷ ns) }
 {
     Some(row?.behind(glyph?))
 }

@@ -17,8 +17,8 @@ abbrev pub in_square : ℕ → Pair → Bool
 in_square side p = nat_lt p.left side && nat_lt p.right side
 
 -- the place of a pair, and the pair of a place
-abbrev pub place_of : ℕ → Pair → ℕ
-place_of side p = p.left * side + p.right
+abbrev pub pair_place : ℕ → Pair → ℕ
+pair_place side p = p.left * side + p.right
 
 abbrev pub pair_at : ℕ → ℕ → Pair
 pair_at side place = record { left = place / side; right = place % side }
@@ -32,13 +32,13 @@ abbrev pub value_of : ℤ → Option ℤ
 value_of cell = cond (int_le (negsuc 32767) cell && int_le cell (pos 32767)) (Some cell) None
 
 -- the row of a pair with that value
-abbrev pub row_of : Pair → Option ℤ → Option (Record Pair ℤ)
-row_of p (Some v) = Some (record { key = p; value = v })
-row_of p None = None
+abbrev pub pair_row : Pair → Option ℤ → Option (Record Pair ℤ)
+pair_row p (Some v) = Some (record { key = p; value = v })
+pair_row p None = None
 
 -- the places: one for each pair
 unfoldable pub grid_rows : ℕ → List ℤ → List (Option (Record Pair ℤ))
-grid_rows side cells = map (λ place. row_of (pair_at side place) (value_of (slice_index_or cells place free_cell))) (range_with_len 0 (side * side))
+grid_rows side cells = map (λ place. pair_row (pair_at side place) (value_of (slice_index_or cells place free_cell))) (range_with_len 0 (side * side))
 
 -- what the table means
 abbrev pub grid_meaning : ℕ → List ℤ → Meaning Pair ℤ
@@ -58,10 +58,10 @@ beyond_grid side cells = drop (side * side) cells
 
 -- where a pair is held: at its place, whose cell has a value, or nowhere
 abbrev pub HeldPlace : ℕ → List ℤ → Pair → Option ℕ → Type 0
-HeldPlace side cells p (Some place) = (in_square side p ≡ true) × (place ≡ place_of side p) × (is_some (value_of (slice_index_or cells place free_cell)) ≡ true)
+HeldPlace side cells p (Some place) = (in_square side p ≡ true) × (place ≡ pair_place side p) × (is_some (value_of (slice_index_or cells place free_cell)) ≡ true)
 HeldPlace side cells p None = lookup pair_bytes (grid_rows side cells) p ≡ None
 
 -- The cells after a call that writes a number for a pair: the cell of the pair holds it, and every other cell what it held. A refusal writes no cell.
 abbrev pub cells_after : ℕ → List ℤ → Pair → ℤ → Result (Unit {0}) TableFault → List ℤ
-cells_after side cells p number (Ok done) = slice_set cells (place_of side p) number
+cells_after side cells p number (Ok done) = slice_set cells (pair_place side p) number
 cells_after side cells p number (Err fault) = cells

@@ -11,27 +11,27 @@ use Rattle.tables.specs.Rows.{Apart}
 use Rattle.tables.specs.Meaning.{Proper}
 use Rattle.tables.proofs.Counts.{count_fits}
 use Rattle.tables.proofs.Options.{none_some, some_one}
-use Rattle.gridtable.specs.Grids.{in_square, pair_at, free_cell, value_of, row_of, grid_rows, grid_meaning}
+use Rattle.gridtable.specs.Grids.{in_square, pair_at, free_cell, value_of, pair_row, grid_rows, grid_meaning}
 
 pub length_rows : (side : ℕ) (cells : List ℤ) → length (grid_rows side cells) ≡ side * side
 unfolding grid_rows
-length_rows side cells = length-map-range_with_len (λ place. row_of (pair_at side place) (value_of (slice_index_or cells place free_cell))) 0 (side * side)
+length_rows side cells = length-map-range_with_len (λ place. pair_row (pair_at side place) (value_of (slice_index_or cells place free_cell))) 0 (side * side)
 
-pub row_at : (side : ℕ) (cells : List ℤ) (i : ℕ) → i < side * side → slice_index_or (grid_rows side cells) i None ≡ row_of (pair_at side i) (value_of (slice_index_or cells i free_cell))
+pub row_at : (side : ℕ) (cells : List ℤ) (i : ℕ) → i < side * side → slice_index_or (grid_rows side cells) i None ≡ pair_row (pair_at side i) (value_of (slice_index_or cells i free_cell))
 unfolding grid_rows
-row_at side cells i h = get_or-map-range_with_len (λ place. row_of (pair_at side place) (value_of (slice_index_or cells place free_cell))) 0 (side * side) i i None h (omega arith)
+row_at side cells i h = get_or-map-range_with_len (λ place. pair_row (pair_at side place) (value_of (slice_index_or cells place free_cell))) 0 (side * side) i i None h (omega arith)
 
 pub row_past : (side : ℕ) (cells : List ℤ) (i : ℕ) → side * side ≤ i → slice_index_or (grid_rows side cells) i None ≡ None
 row_past side cells i h = get_or_past (grid_rows side cells) i None (omega (arith, length_rows side cells))
 
 -- a row has the pair of its place
-row_key : (p : Pair) (v : Option ℤ) (r : Record Pair ℤ) → row_of p v ≡ Some r → r.key ≡ p
+row_key : (p : Pair) (v : Option ℤ) (r : Record Pair ℤ) → pair_row p v ≡ Some r → r.key ≡ p
 row_key p (Some v) r e = ap (λ x. x.key) (sym (some_one (record { key = p; value = v }) r e))
 row_key p None r e = none_some r e
 
 -- a place that holds a record is within the square, and the record is that of its pair
-pub held_at : (side : ℕ) (cells : List ℤ) (i : ℕ) (r : Record Pair ℤ) → slice_index_or (grid_rows side cells) i None ≡ Some r → (i < side * side) × (r.key ≡ pair_at side i)
-held_at side cells i r e = by_cases (cases_lt i (side * side))
+pub held_within : (side : ℕ) (cells : List ℤ) (i : ℕ) (r : Record Pair ℤ) → slice_index_or (grid_rows side cells) i None ≡ Some r → (i < side * side) × (r.key ≡ pair_at side i)
+held_within side cells i r e = by_cases (cases_lt i (side * side))
   where
     by_cases : (i < side * side) ⊎ (side * side ≤ i) → (i < side * side) × (r.key ≡ pair_at side i)
     by_cases (inl h) = (h, row_key (pair_at side i) (value_of (slice_index_or cells i free_cell)) r (sym (row_at side cells i h) ∙ e))
@@ -46,8 +46,8 @@ one_place side i j e =
 
 pub grid_apart : (side : ℕ) (cells : List ℤ) → Apart (grid_rows side cells)
 grid_apart side cells t =
-    let p = (held_at side cells t.i t.r t.first).1 in
-    let q = (held_at side cells t.j t.s t.second).1 in
+    let p = (held_within side cells t.i t.r t.first).1 in
+    let q = (held_within side cells t.j t.s t.second).1 in
     one_place side t.i t.j (sym p ∙ t.same ∙ q)
 
 -- the pair of a place of the square is admitted
@@ -69,6 +69,6 @@ proper_grid side cells small =
     record {
       once = grid_apart side cells;
       within = omega (arith, count_fits (grid_rows side cells));
-      admitted = λ i r e. let t = held_at side cells i r e in ap (in_square side) t.1 ∙ pair_within side i t.0;
+      admitted = λ i r e. let t = held_within side cells i r e in ap (in_square side) t.1 ∙ pair_within side i t.0;
       few = omega arith;
     }

@@ -1,6 +1,6 @@
 //! The grid table's type. Its calls stand in the module below.
 ghost use Rattle.std.specs.Prelude.{◌≡◌, ℕ, ◌*◌, ◌≤◌, length};
-ghost use Rattle.tables.specs.Rows.{count};
+ghost use Rattle.tables.specs.Rows.{record_count};
 ghost use Rattle.gridtable.specs.Grids.{grid_rows};
 
 pub(crate) mod calls;
@@ -14,5 +14,5 @@ pub struct GridTable<'a> {
     cells: &'a mut [i32],
     ghost small: { side ≤ 1024 },
     ghost room: { side * side ≤ length cells.now },
-    ghost counted: { held ≡ count (grid_rows side cells.now) },
+    ghost counted: { held ≡ record_count (grid_rows side cells.now) },
 }

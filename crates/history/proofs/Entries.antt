@@ -1,8 +1,8 @@
 -- Lists of fingerprints that differ in order alone: crowding, sorting and words do not see it.
 use Rattle.std.proofs.Common.{◌≡◌, ℕ, ◌+◌, ◌-◌, ◌<◌, ◌≤◌, true, false, cond, eqb, leb, List, [], ◌∷◌, ◌++◌, length, filter, sym, ap, ◌∙◌, subst, arith}
-use Rattle.layout.specs.Rule.{bit, quotient, sorted, insert, remove, many_from, Crowded, Roomy}
+use Rattle.layout.specs.Rule.{one_if, quotient, sorted, with_one, without_one, many_from, Crowded, Roomy}
 use Rattle.layout.specs.Format.{filter_words}
-use Rattle.layout.specs.Laws.{count}
+use Rattle.layout.specs.Laws.{copies_of}
 use Rattle.layout.proofs.Sorts.{sorted_same_counts, count_here}
 use Rattle.layout.proofs.Rooms.{any_order_law}
 use Rattle.layout.proofs.Formats.{words_any_order}
@@ -13,10 +13,10 @@ use Rattle.filter.specs.declared.plan.Plan.{Plan}
 
 -- each fingerprint stands equally often in both
 abbrev pub Alike : List ℕ → List ℕ → Type 0
-Alike ps qs = (p : ℕ) → count p ps ≡ count p qs
+Alike ps qs = (p : ℕ) → copies_of p ps ≡ copies_of p qs
 
 pub alike_cons : (p : ℕ) (ps qs : List ℕ) → Alike ps qs → Alike (p ∷ ps) (p ∷ qs)
-alike_cons p ps qs a x = count_here p x ps ∙ ap (λ n. bit (eqb p x) + n) (a x) ∙ sym (count_here p x qs)
+alike_cons p ps qs a x = count_here p x ps ∙ ap (λ n. one_if (eqb p x) + n) (a x) ∙ sym (count_here p x qs)
 
 pub alike_sorted : (ps : List ℕ) → Alike (sorted ps) ps
 alike_sorted ps p = (count_law p p ps).0
@@ -52,10 +52,10 @@ crowds_more plan slots ps qs (c, l, h) = (c, l, omega (arith, from_more plan.r p
 -- ---- entries in rising order
 
 -- one more
-pub insert_entries : (p : ℕ) (es ps qs : List ℕ) → es ≡ sorted ps → Alike (p ∷ ps) qs → insert p es ≡ sorted qs
-insert_entries p es ps qs e a = ap (insert p) e ∙ sym (bag_law p ps).0 ∙ sorted_same_counts (p ∷ ps) qs a
+pub insert_entries : (p : ℕ) (es ps qs : List ℕ) → es ≡ sorted ps → Alike (p ∷ ps) qs → with_one p es ≡ sorted qs
+insert_entries p es ps qs e a = ap (with_one p) e ∙ sym (bag_law p ps).0 ∙ sorted_same_counts (p ∷ ps) qs a
 
 -- one less
-pub remove_entries : (p : ℕ) (es ps qs : List ℕ) → es ≡ sorted ps → Alike (p ∷ qs) ps → remove p es ≡ sorted qs
+pub remove_entries : (p : ℕ) (es ps qs : List ℕ) → es ≡ sorted ps → Alike (p ∷ qs) ps → without_one p es ≡ sorted qs
 remove_entries p es ps qs e a =
-    ap (remove p) (e ∙ sym (sorted_same_counts (p ∷ qs) ps a) ∙ (bag_law p qs).0) ∙ (bag_law p (sorted qs)).2
+    ap (without_one p) (e ∙ sym (sorted_same_counts (p ∷ qs) ps a) ∙ (bag_law p qs).0) ∙ (bag_law p (sorted qs)).2

@@ -1,13 +1,13 @@
 -- The law over a history, and one event more.
 use Rattle.std.proofs.Common.{◌≡◌, ℕ, ◌+◌, ◌<◌, ◌⊎◌, List, [], ◌∷◌, ◌++◌, length, get_or, take, is_some, Some, None, Ok, Option, sym, refl, ap, ◌∙◌, subst, inl, inr, ⊎_elim, arith, length-append}
 use Rattle.std.proofs.lemmas.List.{append_assoc, take_more, length-take-le}
-use Rattle.layout.specs.Rule.{bit}
+use Rattle.layout.specs.Rule.{one_if}
 use Rattle.history.specs.declared.operation.Operation.{Operation}
 use Rattle.history.specs.declared.operation.Operation.TheVariants.{Put, Drop, Find}
 use Rattle.history.specs.declared.answer.Found.TheVariants as found
 use Rattle.history.specs.declared.answer.Told.TheVariants.{Stored, Dropped, Found}
 use Rattle.history.specs.Rules.{Terms, Answer, Rule}
-use Rattle.history.specs.History.{Event, History, paired, Decides, Untouched, Follows, times, Current, holding, Due, Answered, Lawful}
+use Rattle.history.specs.History.{Event, History, paired, SetsKey, Untouched, Follows, times, Current, holding, Due, AnsweredByRules, Lawful}
 use Rattle.history.proofs.Keys.{one_key, length_same, numbers_same, number_there}
 use Rattle.history.proofs.Answers.{rule_same}
 
@@ -53,15 +53,15 @@ paired_push (a ∷ xs) (b ∷ ys) x y h = ap (λ l. (a, b) ∷ l) (paired_push x
 
 -- e takes what the keys hold from f to g
 pub record Step {K V : Type 0} (e : Event K V) (f g : K → Option V) : Type 0 where
-  pub sets : (k : K) (v : Option V) → Decides e k v → g k ≡ v
-  pub keeps : (k : K) → ((v : Option V) → Decides e k v → ⊥) → g k ≡ f k
+  pub sets : (k : K) (v : Option V) → SetsKey e k v → g k ≡ v
+  pub keeps : (k : K) → ((v : Option V) → SetsKey e k v → ⊥) → g k ≡ f k
 
 module _ {K V : Type 0} (opening : K → Option V) where
   untouched_front : (h : History K V) (e : Event K V) (k : K) → Untouched (h ++ e ∷ []) k → Untouched h k
   untouched_front h e k u before after x v q d =
       u before (after ++ e ∷ []) x v (ap (λ l. l ++ e ∷ []) q ∙ append_assoc before (x ∷ after) (e ∷ [])) d
 
-  untouched_last : (h : History K V) (e : Event K V) (k : K) → Untouched (h ++ e ∷ []) k → (v : Option V) → Decides e k v → ⊥
+  untouched_last : (h : History K V) (e : Event K V) (k : K) → Untouched (h ++ e ∷ []) k → (v : Option V) → SetsKey e k v → ⊥
   untouched_last h e k u v d = u h [] e v refl d
 
   pub follows_none : Follows opening [] opening
@@ -70,13 +70,13 @@ module _ {K V : Type 0} (opening : K → Option V) where
   pub follows_push : (h : History K V) (e : Event K V) (f g : K → Option V) → Follows opening h f → Step e f g → Follows opening (h ++ e ∷ []) g
   follows_push h e f g old step = record { last = last'; first = λ k u. step.keeps k (untouched_last h e k u) ∙ old.first k (untouched_front h e k u) }
     where
-      by_cases : (before after : History K V) (x : Event K V) (k : K) (v : Option V) → Decides x k v → Untouched after k → ((before ≡ h) × (x ≡ e)) ⊎ Earlier h e before x after → g k ≡ v
-      by_cases before after x k v d u (inl (p, q)) = step.sets k v (subst (λ y. Decides y k v) q d)
+      by_cases : (before after : History K V) (x : Event K V) (k : K) (v : Option V) → SetsKey x k v → Untouched after k → ((before ≡ h) × (x ≡ e)) ⊎ Earlier h e before x after → g k ≡ v
+      by_cases before after x k v d u (inl (p, q)) = step.sets k v (subst (λ y. SetsKey y k v) q d)
       by_cases before after x k v d u (inr p) =
           let w : Untouched (p.rest ++ e ∷ []) k = subst (λ l. Untouched l k) p.then u in
           step.keeps k (untouched_last p.rest e k w) ∙ old.last before p.rest x k v p.there d (untouched_front p.rest e k w)
 
-      last' : (before after : History K V) (x : Event K V) (k : K) (v : Option V) → h ++ e ∷ [] ≡ before ++ x ∷ after → Decides x k v → Untouched after k → g k ≡ v
+      last' : (before after : History K V) (x : Event K V) (k : K) (v : Option V) → h ++ e ∷ [] ≡ before ++ x ∷ after → SetsKey x k v → Untouched after k → g k ≡ v
       last' before after x k v q d u = by_cases before after x k v d u (split_push h e before x after q)
 
 -- ---- what the keys hold is determined
@@ -84,7 +84,7 @@ module _ {K V : Type 0} (opening : K → Option V) where
 module _ {K V : Type 0} (bytes : K → List ℕ) (apart : (a b : K) → bytes a ≡ bytes b → a ≡ b) where
   -- whether an event decides a key
   abbrev Verdict : Event K V → K → Type 0
-  Verdict e k = ((v : Option V) × Decides e k v) ⊎ ((v : Option V) → Decides e k v → ⊥)
+  Verdict e k = ((v : Option V) × SetsKey e k v) ⊎ ((v : Option V) → SetsKey e k v → ⊥)
 
   verdict : (e : Event K V) (k : K) → Verdict e k
   verdict (Put q w, Ok (Stored s)) k =
@@ -100,15 +100,15 @@ module _ {K V : Type 0} (bytes : K → List ℕ) (apart : (a b : K) → bytes a 
     event : Event K V
     value : Option V
     here : h ≡ before ++ event ∷ after
-    decides : Decides event k value
+    decides : SetsKey event k value
     quiet : Untouched after k
 
   latest : (h : History K V) (k : K) → Latest h k ⊎ Untouched h k
   latest [] k = inr (λ before after e v q d. split_nil before e after q)
   latest (x ∷ h) k = by_cases (latest h k)
     where
-      untouched : ((v : Option V) → Decides x k v → ⊥) → Untouched h k → Untouched (x ∷ h) k
-      untouched n u [] after e v q d = n v (subst (λ y. Decides y k v) (sym (heads x e h after q)) d)
+      untouched : ((v : Option V) → SetsKey x k v → ⊥) → Untouched h k → Untouched (x ∷ h) k
+      untouched n u [] after e v q d = n v (subst (λ y. SetsKey y k v) (sym (heads x e h after q)) d)
       untouched n u (b ∷ bs) after e v q d = u bs after e v (tails x b h (bs ++ e ∷ after) q) d
 
       by_verdict : Untouched h k → Verdict x k → Latest (x ∷ h) k ⊎ Untouched (x ∷ h) k
@@ -132,18 +132,18 @@ module _ {K V : Type 0} (t : Terms K) (apart : (a b : K) → t.bytes a ≡ t.byt
   pub rule_current : (f g : K → Option V) (ks ls : List K) → ((k : K) → f k ≡ g k) → Current t.bytes f ks → Current t.bytes g ls
       → (o : Operation K V) (a : Answer V) → Rule t (holding t f ks) o a → Rule t (holding t g ls) o a
   rule_current f g ks ls same cf cg o a =
-      let alike : (k : K) → times t.bytes k ks ≡ times t.bytes k ls = λ k. cf k ∙ ap (λ v. bit (is_some v)) (same k) ∙ sym (cg k) in
+      let alike : (k : K) → times t.bytes k ks ≡ times t.bytes k ls = λ k. cf k ∙ ap (λ v. one_if (is_some v)) (same k) ∙ sym (cg k) in
       rule_same t (holding t f ks) (holding t g ls) same (length_same t.bytes apart ks ls alike) (numbers_same t.bytes apart t.fingerprint ks ls alike) o a
 
   pub answered : (opening : K → Option V) (h : History K V) (f : K → Option V) (ks : List K) (o : Operation K V) (a : Answer V) → Follows opening h f → Current t.bytes f ks
-      → Rule t (holding t f ks) o a → Answered t opening h o a
+      → Rule t (holding t f ks) o a → AnsweredByRules t opening h o a
   answered opening h f ks o a fol cur rule =
       record {
         held = f;
         follows = fol;
         due = λ value v.
             let same : (k : K) → f k ≡ value k = follows_one t.bytes apart opening h f value fol v in
-            record { keys = ks; current = λ k. cur k ∙ ap (λ x. bit (is_some x)) (same k); rule = λ ls c. rule_current f value ks ls same cur c o a rule };
+            record { keys = ks; current = λ k. cur k ∙ ap (λ x. one_if (is_some x)) (same k); rule = λ ls c. rule_current f value ks ls same cur c o a rule };
       }
 
   -- a key for which a find ends at the filter has no value
@@ -153,7 +153,7 @@ module _ {K V : Type 0} (t : Terms K) (apart : (a b : K) → t.bytes a ≡ t.byt
       by_value : (v : Option V) → value k ≡ v → value k ≡ None
       by_value None e = e
       by_value (Some w) e =
-          let one : times t.bytes k d.keys ≡ 1 = d.current k ∙ ap (λ v. bit (is_some v)) e in
+          let one : times t.bytes k d.keys ≡ 1 = d.current k ∙ ap (λ v. one_if (is_some v)) e in
           let there = number_there t.bytes apart t.fingerprint k d.keys (omega arith) in
           absurd (omega (arith, d.rule d.keys d.current))
 
@@ -161,12 +161,12 @@ module _ {K V : Type 0} (t : Terms K) (opening : K → Option V) where
   pub lawful_none : Lawful t opening []
   lawful_none before after o a e = split_nil before (o, a) after e
 
-  pub lawful_push : (h : History K V) (o : Operation K V) (a : Answer V) → Lawful t opening h → Answered t opening h o a → Lawful t opening (h ++ (o, a) ∷ [])
+  pub lawful_push : (h : History K V) (o : Operation K V) (a : Answer V) → Lawful t opening h → AnsweredByRules t opening h o a → Lawful t opening (h ++ (o, a) ∷ [])
   lawful_push h o a old new before after o' a' e = by_cases (split_push h (o, a) before (o', a') after e)
     where
-      by_cases : ((before ≡ h) × (◌≡◌ {A = Event K V} (o', a') (o, a))) ⊎ Earlier h (o, a) before (o', a') after → Answered t opening before o' a'
+      by_cases : ((before ≡ h) × (◌≡◌ {A = Event K V} (o', a') (o, a))) ⊎ Earlier h (o, a) before (o', a') after → AnsweredByRules t opening before o' a'
       by_cases (inl (p, q)) =
-          subst (λ b. Answered t opening b o' a') (sym p) (subst (λ (x : Event K V). Answered t opening h x.0 x.1) (sym q) new)
+          subst (λ b. AnsweredByRules t opening b o' a') (sym p) (subst (λ (x : Event K V). AnsweredByRules t opening h x.0 x.1) (sym q) new)
       by_cases (inr p) = old before p.rest o' a' p.there
 
 -- a turn of the loop over the operations

@@ -3,8 +3,8 @@ use Rattle.std.proofs.Common.{◌≡◌, ℕ, ◌+◌, ◌<◌, Bool, true, fals
 use Rattle.std.proofs.lemmas.Bool.{eq-eqb, cond-true, cases_Bool}
 use Rattle.std.proofs.lemmas.List.Sums.{sum_by-cons}
 use Rattle.kinds.specs.Keys.{same_key}
-use Rattle.layout.specs.Rule.{bit}
-use Rattle.layout.specs.Laws.{count}
+use Rattle.layout.specs.Rule.{one_if}
+use Rattle.layout.specs.Laws.{copies_of}
 use Rattle.layout.proofs.Sorts.{count_here}
 use Rattle.tables.proofs.Options.{same_is, same_refl}
 use Rattle.history.specs.History.{times}
@@ -22,8 +22,8 @@ module _ {K : Type 0} (bytes : K → List ℕ) (apart : (a b : K) → bytes a �
   times_nil : (k : K) → times bytes k [] ≡ 0
   times_nil k = refl
 
-  pub times_cons : (k q : K) (ks : List K) → times bytes k (q ∷ ks) ≡ bit (same_key bytes q k) + times bytes k ks
-  times_cons k q ks = sum_by-cons (λ x. bit (same_key bytes x k)) q ks
+  pub times_cons : (k q : K) (ks : List K) → times bytes k (q ∷ ks) ≡ one_if (same_key bytes q k) + times bytes k ks
+  times_cons k q ks = sum_by-cons (λ x. one_if (same_key bytes x k)) q ks
 
   -- lists of the same keys are equally long
   pub length_same : (ks ls : List K) → ((k : K) → times bytes k ks ≡ times bytes k ls) → length ks ≡ length ls
@@ -31,26 +31,26 @@ module _ {K : Type 0} (bytes : K → List ℕ) (apart : (a b : K) → bytes a �
       sym (weigh_ones ks) ∙ weigh_same (same_key bytes) (same_is bytes apart) (same_refl bytes) (times bytes) times_nil times_cons (λ _. 1) ks ls h ∙ weigh_ones ls
 
   module _ (number : K → ℕ) where
-    count_weigh : (p : ℕ) (ks : List K) → count p (map number ks) ≡ weigh (λ k. bit (eqb (number k) p)) ks
+    count_weigh : (p : ℕ) (ks : List K) → copies_of p (map number ks) ≡ weigh (λ k. one_if (eqb (number k) p)) ks
     unfolding weigh
     count_weigh p [] = refl
-    count_weigh p (k ∷ ks) = count_here (number k) p (map number ks) ∙ ap (λ n. bit (eqb (number k) p) + n) (count_weigh p ks)
+    count_weigh p (k ∷ ks) = count_here (number k) p (map number ks) ∙ ap (λ n. one_if (eqb (number k) p) + n) (count_weigh p ks)
 
     -- and have the same fingerprints
     pub numbers_same : (ks ls : List K) → ((k : K) → times bytes k ks ≡ times bytes k ls) → Alike (map number ks) (map number ls)
     numbers_same ks ls h p =
         count_weigh p ks
-        ∙ weigh_same (same_key bytes) (same_is bytes apart) (same_refl bytes) (times bytes) times_nil times_cons (λ k. bit (eqb (number k) p)) ks ls h
+        ∙ weigh_same (same_key bytes) (same_is bytes apart) (same_refl bytes) (times bytes) times_nil times_cons (λ k. one_if (eqb (number k) p)) ks ls h
         ∙ sym (count_weigh p ls)
 
-    there_case : (b : Bool) (key q : K) (ks : List K) → same_key bytes q key ≡ b → 0 < bit b + times bytes key ks → (0 < times bytes key ks → 0 < count (number key) (map number ks))
-        → 0 < bit (eqb (number q) (number key)) + count (number key) (map number ks)
+    there_case : (b : Bool) (key q : K) (ks : List K) → same_key bytes q key ≡ b → 0 < one_if b + times bytes key ks → (0 < times bytes key ks → 0 < copies_of (number key) (map number ks))
+        → 0 < one_if (eqb (number q) (number key)) + copies_of (number key) (map number ks)
     there_case true key q ks e l rest =
-        let one : bit (eqb (number q) (number key)) ≡ 1 = cond-true (eqb (number q) (number key)) 1 0 (eq-eqb (number q) (number key) (ap number (same_is bytes apart q key e))) in omega arith
+        let one : one_if (eqb (number q) (number key)) ≡ 1 = cond-true (eqb (number q) (number key)) 1 0 (eq-eqb (number q) (number key) (ap number (same_is bytes apart q key e))) in omega arith
     there_case false key q ks e l rest = let r = rest (omega arith) in omega arith
 
     -- the fingerprint of a key that is there is there
-    pub number_there : (key : K) (ks : List K) → 0 < times bytes key ks → 0 < count (number key) (map number ks)
+    pub number_there : (key : K) (ks : List K) → 0 < times bytes key ks → 0 < copies_of (number key) (map number ks)
     number_there key [] l = let n = times_nil key in absurd (omega arith)
     number_there key (q ∷ ks) l =
         let c = times_cons key q ks in

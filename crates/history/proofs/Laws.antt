@@ -1,6 +1,6 @@
 -- What the rules give, read in plain words.
 use Rattle.std.proofs.Common.{◌≡◌, ◌<◌, ◌↔◌, true, true≢false, List, ◌∷◌, map, length, is_some, None, Ok, Err, Option, sym, refl, ap, ◌∙◌, subst, arith}
-use Rattle.layout.specs.Rule.{bit}
+use Rattle.layout.specs.Rule.{one_if}
 use Rattle.filter.specs.Filters.{Crowds}
 use Rattle.filter.specs.declared.fault.FilterFault.TheVariants.{NoSlot}
 use Rattle.tables.specs.declared.fault.TableFault.TheVariants.{ForeignGlyph, TableFull}
@@ -33,7 +33,7 @@ module _ {K V : Type 0} (t : Terms K) (apart : (a b : K) → t.bytes a ≡ t.byt
   strange : (k : K) → Due t value (Drop k) (Err fault.StrangeFilter) → ⊥
   strange k d =
       let r = d.rule d.keys d.current in
-      let one : times t.bytes k d.keys ≡ 1 = d.current k ∙ ap bit r.0 in
+      let one : times t.bytes k d.keys ≡ 1 = d.current k ∙ ap one_if r.0 in
       let there = number_there t.bytes apart t.fingerprint k d.keys (omega arith) in
       omega (arith, r.1)
 

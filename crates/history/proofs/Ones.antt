@@ -3,7 +3,7 @@ use Rattle.std.proofs.Common.{◌≡◌, ◌<◌, ◌≤◌, ◌∷◌, Bool, tr
 use Rattle.filter.specs.Filters.{Crowds}
 use Rattle.filter.specs.declared.fault.FilterFault.TheVariants.{NoSlot}
 use Rattle.layout.specs.Rule.{Roomy}
-use Rattle.layout.specs.Laws.{count}
+use Rattle.layout.specs.Laws.{copies_of}
 use Rattle.tables.specs.declared.fault.TableFault.TheVariants.{ForeignGlyph, TableFull, NotHeld}
 use Rattle.history.specs.declared.operation.Operation.{Operation}
 use Rattle.history.specs.declared.operation.Operation.TheVariants.{Put, Drop, Find}
@@ -15,7 +15,7 @@ use Rattle.history.specs.declared.answer.Told.TheVariants as told
 use Rattle.history.specs.declared.fault.BookFault.{BookFault}
 use Rattle.history.specs.declared.fault.BookFault.TheVariants.{Filter, Table, StrangeFilter}
 use Rattle.history.specs.Rules.{Terms, Holdings, PutRule, DropRule, FindRule, Answer, Rule}
-use Rattle.history.specs.History.{History, answer_of, holding, Due, Answered}
+use Rattle.history.specs.History.{History, answer_of, holding, Due, AnsweredByRules}
 
 clash : {P : Type 0} (b : Bool) → b ≡ true → b ≡ false → P
 clash b t f = absurd (true≢false (sym t ∙ f))
@@ -81,13 +81,13 @@ module _ {K V : Type 0} (t : Terms K) (h : Holdings K V) (k : K) where
   unheld p (Ok done) q = clash (is_some (h.value k)) q.0 p
   unheld p s q = absurd q
 
-  strange : is_some (h.value k) ≡ true → count (t.fingerprint k) h.entries ≡ 0 → Drop_is (Err StrangeFilter)
+  strange : is_some (h.value k) ≡ true → copies_of (t.fingerprint k) h.entries ≡ 0 → Drop_is (Err StrangeFilter)
   strange p c (Err (Table NotHeld)) q = clash (is_some (h.value k)) p q
   strange p c (Err StrangeFilter) q = refl
   strange p c (Ok done) q = absurd (omega (arith, q.1))
   strange p c s q = absurd q
 
-  dropped : (done : Unit {0}) → is_some (h.value k) ≡ true → 0 < count (t.fingerprint k) h.entries → Drop_is (Ok done)
+  dropped : (done : Unit {0}) → is_some (h.value k) ≡ true → 0 < copies_of (t.fingerprint k) h.entries → Drop_is (Ok done)
   dropped done p c (Err (Table NotHeld)) q = clash (is_some (h.value k)) p q
   dropped done p c (Err StrangeFilter) q = absurd (omega (arith, q.1))
   dropped done p c (Ok did) q = refl
@@ -132,5 +132,5 @@ module _ {K V : Type 0} (t : Terms K) where
   pub due_one : (value : K → Option V) (o : Operation K V) (a b : Answer V) → Due t value o a → Due t value o b → a ≡ b
   due_one value o a b p q = rule_one (holding t value p.keys) o a b (p.rule p.keys p.current) (q.rule p.keys p.current)
 
-  pub answered_one : (opening : K → Option V) (before : History K V) (o : Operation K V) (a b : Answer V) → Answered t opening before o a → Answered t opening before o b → a ≡ b
+  pub answered_one : (opening : K → Option V) (before : History K V) (o : Operation K V) (a b : Answer V) → AnsweredByRules t opening before o a → AnsweredByRules t opening before o b → a ≡ b
   answered_one opening before o a b p q = due_one p.held o a b (p.due p.held p.follows) (q.due p.held p.follows)

@@ -3,8 +3,8 @@ use Rattle.std.proofs.Common.{◌≡◌, ℕ, suc, ◌+◌, ◌<◌, ◌≤◌, 
 use Rattle.std.proofs.lemmas.List.{take_more, take-append-drop, map-append}
 use Rattle.std.proofs.lemmas.Bool.{cases_lt}
 use Rattle.kinds.specs.Keys.{same_key}
-use Rattle.layout.specs.Rule.{bit}
-use Rattle.tables.specs.Rows.{lookup, count, keys_of, Apart}
+use Rattle.layout.specs.Rule.{one_if}
+use Rattle.tables.specs.Rows.{lookup, record_count, keys_of, Apart}
 use Rattle.tables.specs.Meaning.{Meaning, Revalued}
 use Rattle.tables.specs.declared.record.Record.{Record}
 use Rattle.history.specs.History.{times, Current}
@@ -13,7 +13,7 @@ use Rattle.tables.proofs.Counts.{count_cons}
 use Rattle.tables.proofs.Options.{same_is}
 use Rattle.history.proofs.Keys.{times_cons, numbers_same}
 
-pub length_keys : {K V : Type 0} (rows : List (Option (Record K V))) → length (keys_of rows) ≡ count rows
+pub length_keys : {K V : Type 0} (rows : List (Option (Record K V))) → length (keys_of rows) ≡ record_count rows
 unfolding keys_of
 length_keys [] = refl
 length_keys {K} {V} (None ∷ rows) = omega (arith, length_keys rows, count_cons {R = Record K V} None rows)
@@ -31,7 +31,7 @@ module _ {K V : Type 0} (bytes : K → List ℕ) (apart : (a b : K) → bytes a 
   stands_later o rows k s = record { at = suc s.at; r = s.r; here = s.here; own = s.own }
 
   stands_case : (b : Bool) (r : Record K V) (rows : List (Option (Record K V))) (k : K) → same_key bytes r.key k ≡ b → (0 < times bytes k (keys_of rows) → Stands rows k)
-      → 0 < bit b + times bytes k (keys_of rows) → Stands (Some r ∷ rows) k
+      → 0 < one_if b + times bytes k (keys_of rows) → Stands (Some r ∷ rows) k
   stands_case true r rows k e rest h = record { at = 0; r = r; here = refl; own = same_is bytes apart r.key k e }
   stands_case false r rows k e rest h = stands_later (Some r) rows k (rest (omega arith))
 
@@ -46,8 +46,8 @@ module _ {K V : Type 0} (bytes : K → List ℕ) (apart : (a b : K) → bytes a 
   apart_rest o rows a t =
       let z : suc t.i ≡ suc t.j = a (record { i = suc t.i; j = suc t.j; r = t.r; s = t.s; first = t.first; second = t.second; same = t.same }) in omega arith
 
-  current_case : (b : Bool) (r : Record K V) (rows : List (Option (Record K V))) (k : K) → Apart (Some r ∷ rows) → times bytes k (keys_of rows) ≡ bit (is_some (lookup bytes rows k))
-      → same_key bytes r.key k ≡ b → bit b + times bytes k (keys_of rows) ≡ bit (is_some (cond b (Some r.value) (lookup bytes rows k)))
+  current_case : (b : Bool) (r : Record K V) (rows : List (Option (Record K V))) (k : K) → Apart (Some r ∷ rows) → times bytes k (keys_of rows) ≡ one_if (is_some (lookup bytes rows k))
+      → same_key bytes r.key k ≡ b → one_if b + times bytes k (keys_of rows) ≡ one_if (is_some (cond b (Some r.value) (lookup bytes rows k)))
   current_case false r rows k a rest e = omega arith
   current_case true r rows k a rest e = by_cases (cases_lt 0 (times bytes k (keys_of rows)))
     where
@@ -79,30 +79,30 @@ module _ {K V : Type 0} (bytes : K → List ℕ) (apart : (a b : K) → bytes a 
     pub numbers_changed : (v : V) → is_some (had key) ≡ true → Revalued bytes m n key (Some v) → Alike (map number (keys_of m.rows)) (map number (keys_of n.rows))
     numbers_changed v h to =
         numbers_same bytes apart number (keys_of m.rows) (keys_of n.rows)
-        (λ k. current_keys m.rows a k ∙ ap bit (sym (ap is_some (to k) ∙ change_case (same_key bytes key k) k v refl h)) ∙ sym (current_keys n.rows b k))
+        (λ k. current_keys m.rows a k ∙ ap one_if (sym (ap is_some (to k) ∙ change_case (same_key bytes key k) k v refl h)) ∙ sym (current_keys n.rows b k))
 
-    new_case : (s : Bool) (k : K) (v : V) → same_key bytes key k ≡ s → is_some (had key) ≡ false → bit (is_some (cond s (Some v) (had k))) ≡ bit s + bit (is_some (had k))
-    new_case true k v e h = sym (ap (λ x. 1 + bit x) (ap (λ q. is_some (had q)) (sym (same_is bytes apart key k e)) ∙ h))
+    new_case : (s : Bool) (k : K) (v : V) → same_key bytes key k ≡ s → is_some (had key) ≡ false → one_if (is_some (cond s (Some v) (had k))) ≡ one_if s + one_if (is_some (had k))
+    new_case true k v e h = sym (ap (λ x. 1 + one_if x) (ap (λ q. is_some (had q)) (sym (same_is bytes apart key k e)) ∙ h))
     new_case false k v e h = omega arith
 
     pub numbers_new : (v : V) → is_some (had key) ≡ false → Revalued bytes m n key (Some v) → Alike (number key ∷ map number (keys_of m.rows)) (map number (keys_of n.rows))
     numbers_new v h to =
         numbers_same bytes apart number (key ∷ keys_of m.rows) (keys_of n.rows)
         (λ k. let p = current_keys m.rows a k in
-        let q : times bytes k (keys_of n.rows) ≡ bit (is_some (cond (same_key bytes key k) (Some v) (had k))) = current_keys n.rows b k ∙ ap (λ o. bit (is_some o)) (to k) in
+        let q : times bytes k (keys_of n.rows) ≡ one_if (is_some (cond (same_key bytes key k) (Some v) (had k))) = current_keys n.rows b k ∙ ap (λ o. one_if (is_some o)) (to k) in
         let c = new_case (same_key bytes key k) k v refl h in
         let d = times_cons bytes apart k key (keys_of m.rows) in
         omega arith)
 
-    drop_case : (s : Bool) (k : K) → same_key bytes key k ≡ s → is_some (had key) ≡ true → bit s + bit (is_some (cond {A = Option V} s None (had k))) ≡ bit (is_some (had k))
-    drop_case true k e h = ap bit (sym h ∙ ap (λ q. is_some (had q)) (same_is bytes apart key k e))
+    drop_case : (s : Bool) (k : K) → same_key bytes key k ≡ s → is_some (had key) ≡ true → one_if s + one_if (is_some (cond {A = Option V} s None (had k))) ≡ one_if (is_some (had k))
+    drop_case true k e h = ap one_if (sym h ∙ ap (λ q. is_some (had q)) (same_is bytes apart key k e))
     drop_case false k e h = omega arith
 
     pub numbers_dropped : is_some (had key) ≡ true → Revalued bytes m n key None → Alike (number key ∷ map number (keys_of n.rows)) (map number (keys_of m.rows))
     numbers_dropped h to =
         numbers_same bytes apart number (key ∷ keys_of n.rows) (keys_of m.rows)
         (λ k. let p = current_keys m.rows a k in
-        let q : times bytes k (keys_of n.rows) ≡ bit (is_some (cond {A = Option V} (same_key bytes key k) None (had k))) = current_keys n.rows b k ∙ ap (λ o. bit (is_some o)) (to k) in
+        let q : times bytes k (keys_of n.rows) ≡ one_if (is_some (cond {A = Option V} (same_key bytes key k) None (had k))) = current_keys n.rows b k ∙ ap (λ o. one_if (is_some o)) (to k) in
         let c = drop_case (same_key bytes key k) k refl h in
         let d = times_cons bytes apart k key (keys_of n.rows) in
         omega arith)

@@ -1,6 +1,6 @@
 -- Two lists in which each thing stands equally often weigh the same, whatever each thing weighs.
 use Rattle.std.proofs.Common.{◌≡◌, ℕ, ◌+◌, ◌<◌, Bool, true, false, cond, List, [], ◌∷◌, length, refl, ap, ◌∙◌, arith}
-use Rattle.layout.specs.Rule.{bit}
+use Rattle.layout.specs.Rule.{one_if}
 
 unfoldable pub weigh : {X : Type 0} → (X → ℕ) → List X → ℕ
 weigh f [] = 0
@@ -13,24 +13,24 @@ weigh_ones (x ∷ xs) = let h = weigh_ones xs in omega arith
 
 -- occ counts how often a thing stands in a list, by a test that tells equals
 module _ {X : Type 0} (same : X → X → Bool) (is : (a b : X) → same a b ≡ true → a ≡ b) (self : (a : X) → same a a ≡ true)
-    (occ : X → List X → ℕ) (occ_nil : (x : X) → occ x [] ≡ 0) (occ_cons : (x y : X) (ys : List X) → occ x (y ∷ ys) ≡ bit (same y x) + occ x ys) where
+    (occ : X → List X → ℕ) (occ_nil : (x : X) → occ x [] ≡ 0) (occ_cons : (x y : X) (ys : List X) → occ x (y ∷ ys) ≡ one_if (same y x) + occ x ys) where
   unfoldable erase : X → List X → List X
   erase x [] = []
   erase x (y ∷ ys) = cond (same y x) ys (y ∷ erase x ys)
 
-  occ_erase_case : (b : Bool) (x y : X) (ys : List X) (z : X) → same y x ≡ b → (0 < occ x ys → occ z ys ≡ bit (same x z) + occ z (erase x ys)) → 0 < bit b + occ x ys
-      → bit (same y z) + occ z ys ≡ bit (same x z) + occ z (cond b ys (y ∷ erase x ys))
-  occ_erase_case true x y ys z e rest h = ap (λ a. bit (same a z) + occ z ys) (is y x e)
+  occ_erase_case : (b : Bool) (x y : X) (ys : List X) (z : X) → same y x ≡ b → (0 < occ x ys → occ z ys ≡ one_if (same x z) + occ z (erase x ys)) → 0 < one_if b + occ x ys
+      → one_if (same y z) + occ z ys ≡ one_if (same x z) + occ z (cond b ys (y ∷ erase x ys))
+  occ_erase_case true x y ys z e rest h = ap (λ a. one_if (same a z) + occ z ys) (is y x e)
   occ_erase_case false x y ys z e rest h = let r = rest (omega arith) in let c = occ_cons z y (erase x ys) in omega arith
 
-  occ_erase : (x : X) (ys : List X) (z : X) → 0 < occ x ys → occ z ys ≡ bit (same x z) + occ z (erase x ys)
+  occ_erase : (x : X) (ys : List X) (z : X) → 0 < occ x ys → occ z ys ≡ one_if (same x z) + occ z (erase x ys)
   unfolding erase
   occ_erase x [] z h = let n = occ_nil x in absurd (omega arith)
   occ_erase x (y ∷ ys) z h =
       let c = occ_cons x y ys in occ_cons z y ys ∙ occ_erase_case (same y x) x y ys z refl (occ_erase x ys z) (omega arith)
 
   module _ (f : X → ℕ) where
-    weigh_erase_case : (b : Bool) (x y : X) (ys : List X) → same y x ≡ b → (0 < occ x ys → weigh f ys ≡ f x + weigh f (erase x ys)) → 0 < bit b + occ x ys
+    weigh_erase_case : (b : Bool) (x y : X) (ys : List X) → same y x ≡ b → (0 < occ x ys → weigh f ys ≡ f x + weigh f (erase x ys)) → 0 < one_if b + occ x ys
         → f y + weigh f ys ≡ f x + weigh f (cond b ys (y ∷ erase x ys))
     unfolding weigh
     weigh_erase_case true x y ys e rest h = ap (λ a. f a + weigh f ys) (is y x e)
@@ -42,7 +42,7 @@ module _ {X : Type 0} (same : X → X → Bool) (is : (a b : X) → same a b ≡
     weigh_erase x (y ∷ ys) h = let c = occ_cons x y ys in weigh_erase_case (same y x) x y ys refl (weigh_erase x ys) (omega arith)
 
     stands_first : (x : X) (xs : List X) → 0 < occ x (x ∷ xs)
-    stands_first x xs = let c : occ x (x ∷ xs) ≡ 1 + occ x xs = occ_cons x x xs ∙ ap (λ b. bit b + occ x xs) (self x) in omega arith
+    stands_first x xs = let c : occ x (x ∷ xs) ≡ 1 + occ x xs = occ_cons x x xs ∙ ap (λ b. one_if b + occ x xs) (self x) in omega arith
 
     pub weigh_same : (xs ys : List X) → ((x : X) → occ x xs ≡ occ x ys) → weigh f xs ≡ weigh f ys
     unfolding weigh

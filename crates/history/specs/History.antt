@@ -1,7 +1,7 @@
 -- The law of a book over whole histories: what it answers and what it holds, by the operations and their answers alone.
 use Rattle.std.specs.Prelude.{◌≡◌, ℕ, ◌+◌, List, [], ◌∷◌, ◌++◌, map, length, is_some, Some, None, Ok, Err, Option, Result}
 use Rattle.kinds.specs.Keys.{same_key}
-use Rattle.layout.specs.Rule.{bit}
+use Rattle.layout.specs.Rule.{one_if}
 use Rattle.std.specs.List.{count_by}
 use Rattle.history.specs.declared.operation.Operation.{Operation}
 use Rattle.history.specs.declared.operation.Operation.TheVariants.{Put, Drop, Find}
@@ -44,18 +44,18 @@ paired (x ∷ xs) [] = []
 paired (x ∷ xs) (y ∷ ys) = (x, y) ∷ paired xs ys
 
 -- An accepted put of key k gives it that value, an accepted drop none. No other event says anything of k.
-abbrev pub Decides : {K V : Type 0} → Event K V → K → Option V → Type 0
-Decides (Put q w, Ok (Stored s)) k v = (q ≡ k) × (v ≡ Some w)
-Decides (Drop q, Ok Dropped) k v = (q ≡ k) × (v ≡ None)
-Decides e k v = ⊥
+abbrev pub SetsKey : {K V : Type 0} → Event K V → K → Option V → Type 0
+SetsKey (Put q w, Ok (Stored s)) k v = (q ≡ k) × (v ≡ Some w)
+SetsKey (Drop q, Ok Dropped) k v = (q ≡ k) × (v ≡ None)
+SetsKey e k v = ⊥
 
 -- no event of the history decides key k
 abbrev pub Untouched : {K V : Type 0} → History K V → K → Type 0
-Untouched {K} {V} h k = (before after : History K V) (e : Event K V) (v : Option V) → h ≡ before ++ e ∷ after → Decides e k v → ⊥
+Untouched {K} {V} h k = (before after : History K V) (e : Event K V) (v : Option V) → h ≡ before ++ e ∷ after → SetsKey e k v → ⊥
 
 -- Each key has the value that the last accepted put or drop of it gave, and without either the one that it had at the opening.
 pub record Follows {K V : Type 0} (opening : K → Option V) (h : History K V) (value : K → Option V) : Type 0 where
-  pub last : (before after : History K V) (e : Event K V) (k : K) (v : Option V) → h ≡ before ++ e ∷ after → Decides e k v → Untouched after k → value k ≡ v
+  pub last : (before after : History K V) (e : Event K V) (k : K) (v : Option V) → h ≡ before ++ e ∷ after → SetsKey e k v → Untouched after k → value k ≡ v
   pub first : (k : K) → Untouched h k → value k ≡ opening k
 
 -- how often a key stands in a list
@@ -64,7 +64,7 @@ times bytes k ks = count_by (λ q. same_key bytes q k) ks
 
 -- ks are the current keys: each key that has a value stands there once, and no other
 abbrev pub Current : {K V : Type 0} → (K → List ℕ) → (K → Option V) → List K → Type 0
-Current {K} {V} bytes value ks = (k : K) → times bytes k ks ≡ bit (is_some (value k))
+Current {K} {V} bytes value ks = (k : K) → times bytes k ks ≡ one_if (is_some (value k))
 
 -- a book that holds just the current keys with their values, and in its filter their fingerprints, one for each key
 abbrev pub holding : {K V : Type 0} → Terms K → (K → Option V) → List K → Holdings K V
@@ -77,11 +77,11 @@ pub record Due {K V : Type 0} (t : Terms K) (value : K → Option V) (o : Operat
   pub rule : (ks : List K) → Current t.bytes value ks → Rule t (holding t value ks) o a
 
 -- Each answer of a history is due by what the keys hold after the events before it; and that is determined by these events.
-pub record Answered {K V : Type 0} (t : Terms K) (opening : K → Option V) (before : History K V) (o : Operation K V) (a : Answer V) : Type 0 where
+pub record AnsweredByRules {K V : Type 0} (t : Terms K) (opening : K → Option V) (before : History K V) (o : Operation K V) (a : Answer V) : Type 0 where
   pub held : K → Option V
   pub follows : Follows opening before held
   pub due : (value : K → Option V) → Follows opening before value → Due t value o a
 
 -- every answer of a history
 abbrev pub Lawful : {K V : Type 0} → Terms K → (K → Option V) → History K V → Type 0
-Lawful {K} {V} t opening h = (before after : History K V) (o : Operation K V) (a : Answer V) → h ≡ before ++ (o, a) ∷ after → Answered t opening before o a
+Lawful {K} {V} t opening h = (before after : History K V) (o : Operation K V) (a : Answer V) → h ≡ before ++ (o, a) ∷ after → AnsweredByRules t opening before o a

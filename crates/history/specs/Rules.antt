@@ -1,7 +1,7 @@
 -- The rules of a book: what each operation is answered, by what the table and the filter hold.
 use Rattle.std.specs.Prelude.{◌≡◌, ℕ, ◌<◌, ◌≤◌, Bool, true, false, List, ◌∷◌, is_some, Ok, Err, Option, Result}
 use Rattle.layout.specs.Rule.{Roomy}
-use Rattle.layout.specs.Laws.{count}
+use Rattle.layout.specs.Laws.{copies_of}
 use Rattle.filter.specs.Filters.{Crowds}
 use Rattle.filter.specs.declared.plan.Plan.{Plan}
 use Rattle.filter.specs.declared.fault.FilterFault.TheVariants.{NoSlot}
@@ -47,14 +47,15 @@ PutRule t h k (Err e) = ⊥
 -- A drop of key k: refused where the key is not held, then where no entry has its fingerprint. There is no other refusal.
 abbrev pub DropRule : {K V : Type 0} → Terms K → Holdings K V → K → Result (Unit {0}) BookFault → Type 0
 DropRule t h k (Err (Table NotHeld)) = is_some (h.value k) ≡ false
-DropRule t h k (Err StrangeFilter) = (is_some (h.value k) ≡ true) × (count (t.fingerprint k) h.entries ≡ 0)
-DropRule t h k (Ok done) = (is_some (h.value k) ≡ true) × (0 < count (t.fingerprint k) h.entries)
+DropRule t h k (Err StrangeFilter) = (is_some (h.value k) ≡ true) × (copies_of (t.fingerprint k) h.entries ≡ 0)
+DropRule t h k (Ok done) =
+    (is_some (h.value k) ≡ true) × (0 < copies_of (t.fingerprint k) h.entries)
 DropRule t h k (Err e) = ⊥
 
 -- A find of key k ends at the filter where no entry has its fingerprint; else it gives the value in the table.
 abbrev pub FindRule : {K V : Type 0} → Terms K → Holdings K V → K → Found V → Type 0
-FindRule t h k found.Filter = count (t.fingerprint k) h.entries ≡ 0
-FindRule t h k (found.Table v) = (0 < count (t.fingerprint k) h.entries) × (v ≡ h.value k)
+FindRule t h k found.Filter = copies_of (t.fingerprint k) h.entries ≡ 0
+FindRule t h k (found.Table v) = (0 < copies_of (t.fingerprint k) h.entries) × (v ≡ h.value k)
 
 -- What a book answers to an operation: what it did, or why it is refused.
 abbrev pub Answer : Type 0 → Type 0

@@ -25,5 +25,5 @@ told_text shown told.Dropped = Some (codes "dropped")
 told_text shown (told.Found f) = found_text shown f
 
 -- the same, where each value has a text, as `shown` writes it
-abbrev pub book_text : {V : Type 0} → (V → List ℕ) → Told V → List ℕ
-book_text shown told = unwrap_or (told_text (λ v. Some (shown v)) told) []
+abbrev pub value_told_text : {V : Type 0} → (V → List ℕ) → Told V → List ℕ
+value_told_text shown told = unwrap_or (told_text (λ v. Some (shown v)) told) []

@@ -1,5 +1,5 @@
 ghost use Rattle.std.specs.Prelude.{◌≡◌, Some, decimal};
-ghost use Rattle.history.specs.Faults.{number_of};
+ghost use Rattle.history.specs.Faults.{book_fault_number};
 ghost use Rattle.history.specs.declared.fault.BookFault.TheVariants.{Filter, Table};
 
 use filter::FilterFault;
@@ -21,7 +21,7 @@ pub enum BookFault {
 impl BookFault {
     /// The number that a customer sees.
     pub fn number(self) -> u32
-        ensures { result ≡ number_of self }
+        ensures { result ≡ book_fault_number self }
     {
         match self {
             BookFault::Filter(fault) => fault.number(),
@@ -34,7 +34,7 @@ impl BookFault {
 /// The number that a customer sees.
 // kept: Display is implemented for one type at a time, and no macro of the repository may write impls.
 impl fmt::Display for BookFault {
-    ghost output = { λ fault. Some (decimal (number_of fault)) };
+    ghost output = { λ fault. Some (decimal (book_fault_number fault)) };
 
     fn fmt<W: fmt::Write>(&self, f: &mut fmt::Formatter<W>) -> fmt::Result {
         let number = self.number();

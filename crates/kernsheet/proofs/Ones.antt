@@ -21,7 +21,7 @@ use Rattle.answers.specs.declared.done.Done.TheVariants.{Kern, Ligature}
 use Rattle.answers.specs.declared.fault.Refusal.{Refusal}
 use Rattle.answers.specs.Texts.{answer_line}
 use Rattle.sheet.specs.Doing.{reply_of}
-use Rattle.kernsheet.specs.Sheets.{Outcome, LineAnswered, LinesAnswered, SheetAnswered, OneAnswer}
+use Rattle.kernsheet.specs.Sheets.{CommandAnswered, LineAnswered, LinesAnswered, SheetAnswered, OneAnswer}
 
 -- plans of the same bits are one
 plan_one : (p s : Plan) → p.q ≡ s.q → p.r ≡ s.r → p ≡ s
@@ -42,7 +42,7 @@ module _ (t : Terms Pair) (u : Terms Sequence) where
     reply : a ≡ b
 
   module _ (k k' m : History Pair ℤ) (l l' n : History Sequence ℕ) (a b : Result Done Refusal) where
-    outcome_one : (r : Result Command LineFault) → Outcome t u k k' l l' r a → Outcome t u k m l n r b → Same k' m l' n a b
+    outcome_one : (r : Result Command LineFault) → CommandAnswered t u k k' l l' r a → CommandAnswered t u k m l n r b → Same k' m l' n a b
     outcome_one (Ok (command.Kern o)) (x, p, longer, same, is) (y, q, more, alike, so) =
         let one = answered_one t nothing k o x y p q in
         record { kerns = longer ∙ ap (λ z. k ++ (o, z) ∷ []) one ∙ sym more; ligatures = same ∙ sym alike; reply = is ∙ ap (reply_of Kern) one ∙ sym so }
@@ -53,7 +53,7 @@ module _ (t : Terms Pair) (u : Terms Sequence) where
 
     line_one : (line : List ℕ) → LineAnswered t u k k' l l' line a → LineAnswered t u k m l n line b → Same k' m l' n a b
     line_one line (r, means, p) (s, too, q) =
-        outcome_one r p (subst (λ (z : Result Command LineFault). Outcome t u k m l n z b) ((alone line r means).1 s too) q)
+        outcome_one r p (subst (λ (z : Result Command LineFault). CommandAnswered t u k m l n z b) ((alone line r means).1 s too) q)
 
   lines_one : (k : History Pair ℤ) (l : History Sequence ℕ) (number : ℕ) (lines : List (List ℕ)) (a b : List ℕ)
       → LinesAnswered t u k l number lines a → LinesAnswered t u k l number lines b → a ≡ b

@@ -10,20 +10,20 @@ use Rattle.forms.specs.declared.fault.LineFault.{LineFault}
 use Rattle.forms.specs.Meaning.{Meant}
 use Rattle.history.specs.Beginnings.{nothing}
 use Rattle.history.specs.Rules.{Answer}
-use Rattle.history.specs.History.{History, Answered}
+use Rattle.history.specs.History.{History, AnsweredByRules}
 use Rattle.history.specs.declared.operation.Operation.{Operation}
 use Rattle.book.specs.Reached.{State, Reached}
 use Rattle.answers.specs.declared.done.Done.{Done}
 use Rattle.answers.specs.declared.fault.Refusal.{Refusal}
 use Rattle.answers.specs.Texts.{answer_line}
-use Rattle.sheet.specs.Doing.{Whole, state_at, Outcome, LineDone}
+use Rattle.sheet.specs.Doing.{WholeBook, state_at, CommandDone, LineDone}
 use Rattle.kernsheet.specs.Fresh.{IsFresh, terms}
 use Rattle.kernsheet.specs.Sheets.{LineAnswered, LinesAnswered}
 
 -- the last answer in the history of a book that held nothing is the one that the rules give
 last_answer : {K V : Type 0} (bytes : K → List ℕ) (s now : State K V) (h : History K V) (o : Operation K V) (a : Answer V) → IsFresh bytes s
-    → Reached bytes s now (h ++ (o, a) ∷ []) → Answered (terms bytes s) nothing h o a
-last_answer bytes s now h o a fresh r = subst (λ opening. Answered (terms bytes s) opening h o a) fresh.holds (r.law.answers h [] o a refl)
+    → Reached bytes s now (h ++ (o, a) ∷ []) → AnsweredByRules (terms bytes s) nothing h o a
+last_answer bytes s now h o a fresh r = subst (λ opening. AnsweredByRules (terms bytes s) opening h o a) fresh.holds (r.law.answers h [] o a refl)
 
 module _ (s : State Pair ℤ) (t : State Sequence ℕ) where
   -- The two books began as s and t, and are k and l now. The lines done so far were answered by the text; what answers the others, of which the next has that
@@ -44,9 +44,9 @@ module _ (s : State Pair ℤ) (t : State Sequence ℕ) where
     kern : Reached pair_bytes s k kerns
     ligature : Reached sequence_bytes t l ligatures
 
-  module _ {B C X Y : Type 0} (k m : Whole Pair ℤ B X) (l n : Whole Sequence ℕ C Y) (h : History Pair ℤ) (j : History Sequence ℕ) (line : List ℕ) (reply : Result Done Refusal)
+  module _ {B C X Y : Type 0} (k m : WholeBook Pair ℤ B X) (l n : WholeBook Sequence ℕ C Y) (h : History Pair ℤ) (j : History Sequence ℕ) (line : List ℕ) (reply : Result Done Refusal)
       (fresh : IsFresh pair_bytes s) (new : IsFresh sequence_bytes t) (a : Reached pair_bytes s (state_at k) h) (b : Reached sequence_bytes t (state_at l) j) where
-    goes : (r : Result Command LineFault) → Meant line r → Outcome k m l n r reply → Goes (state_at m) (state_at n) h j line reply
+    goes : (r : Result Command LineFault) → Meant line r → CommandDone k m l n r reply → Goes (state_at m) (state_at n) h j line reply
     goes (Ok (command.Kern o)) means (x, did, same, is) =
         let r = did.law s h a in
         record {
@@ -54,7 +54,7 @@ module _ (s : State Pair ℤ) (t : State Sequence ℕ) where
           ligatures = j;
           answered = (Ok (command.Kern o), means, (x, last_answer pair_bytes s (state_at m) h o x fresh r, refl, refl, is));
           kern = r;
-          ligature = subst (λ (w : Whole Sequence ℕ C Y). Reached sequence_bytes t (state_at w) j) (sym same) b;
+          ligature = subst (λ (w : WholeBook Sequence ℕ C Y). Reached sequence_bytes t (state_at w) j) (sym same) b;
         }
     goes (Ok (command.Ligature o)) means (x, did, same, is) =
         let r = did.law t j b in
@@ -62,15 +62,15 @@ module _ (s : State Pair ℤ) (t : State Sequence ℕ) where
           kerns = h;
           ligatures = j ++ (o, x) ∷ [];
           answered = (Ok (command.Ligature o), means, (x, last_answer sequence_bytes t (state_at n) j o x new r, refl, refl, is));
-          kern = subst (λ (w : Whole Pair ℤ B X). Reached pair_bytes s (state_at w) h) (sym same) a;
+          kern = subst (λ (w : WholeBook Pair ℤ B X). Reached pair_bytes s (state_at w) h) (sym same) a;
           ligature = r;
         }
     goes (Err f) means (same, alike, is) = record {
       kerns = h;
       ligatures = j;
       answered = (Err f, means, (refl, refl, is));
-      kern = subst (λ (w : Whole Pair ℤ B X). Reached pair_bytes s (state_at w) h) (sym same) a;
-      ligature = subst (λ (w : Whole Sequence ℕ C Y). Reached sequence_bytes t (state_at w) j) (sym alike) b;
+      kern = subst (λ (w : WholeBook Pair ℤ B X). Reached pair_bytes s (state_at w) h) (sym same) a;
+      ligature = subst (λ (w : WholeBook Sequence ℕ C Y). Reached sequence_bytes t (state_at w) j) (sym alike) b;
     }
 
   pub sofar_none : (all left : List (List ℕ)) (number : ℕ) (text : List ℕ) → Reached pair_bytes s s [] → Reached sequence_bytes t t [] → all ≡ left → number ≡ 1 → text ≡ []
@@ -83,7 +83,7 @@ module _ (s : State Pair ℤ) (t : State Sequence ℕ) where
     completes = λ rest h. rw (c, e) (rw d at h);
   }
 
-  pub sofar_more : {B C X Y : Type 0} (k m : Whole Pair ℤ B X) (l n : Whole Sequence ℕ C Y) (all left : List (List ℕ)) (number : ℕ) (text : List ℕ)
+  pub sofar_more : {B C X Y : Type 0} (k m : WholeBook Pair ℤ B X) (l n : WholeBook Sequence ℕ C Y) (all left : List (List ℕ)) (number : ℕ) (text : List ℕ)
       (line : List ℕ) (rest : List (List ℕ)) (reply : Result Done Refusal) (bytes after : List ℕ) (own next : ℕ)
       → IsFresh pair_bytes s → IsFresh sequence_bytes t → Sofar (state_at k) (state_at l) all left number text
       → left ≡ line ∷ rest → LineDone k m l n line reply → own ≡ number → bytes ≡ answer_line own reply → after ≡ text ++ bytes → next ≡ own + 1

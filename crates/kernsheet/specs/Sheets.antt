@@ -8,7 +8,7 @@ use Rattle.kinds.specs.declared.sequence.Sequence.{Sequence}
 use Rattle.filter.specs.declared.plan.Plan.{Plan}
 use Rattle.history.specs.Rules.{Terms, Answer}
 use Rattle.history.specs.Beginnings.{nothing, list_terms}
-use Rattle.history.specs.History.{History, Answered}
+use Rattle.history.specs.History.{History, AnsweredByRules}
 use Rattle.figures.specs.Lines.{lines_of}
 use Rattle.forms.specs.declared.command.Command.{Command}
 use Rattle.forms.specs.declared.command.Command.TheVariants as command
@@ -22,20 +22,20 @@ use Rattle.answers.specs.Texts.{answer_line}
 use Rattle.sheet.specs.Doing.{reply_of}
 use Rattle.console.specs.declared.fault.Fault.{Fault}
 use Rattle.console.specs.declared.fault.Fault.TheVariants.{Memory, Stream}
-use Rattle.console.specs.Sending.{Begins}
+use Rattle.console.specs.Sending.{AppendsBeginning}
 
 -- What becomes of a line that means this, where k and l are what was asked of the kerning book and of the ligature book before it, with their answers, and k'
 -- and l' the same after it: one book gives the answer that its rules give for the keys current then. A line that is refused before asks neither.
-abbrev pub Outcome : Terms Pair → Terms Sequence → History Pair ℤ → History Pair ℤ → History Sequence ℕ → History Sequence ℕ → Result Command LineFault → Result Done Refusal → Type 0
-Outcome t u k k' l l' (Ok (command.Kern o)) reply =
-    (a : Answer ℤ) × Answered t nothing k o a × (k' ≡ k ++ (o, a) ∷ []) × (l' ≡ l) × (reply ≡ reply_of Kern a)
-Outcome t u k k' l l' (Ok (command.Ligature o)) reply =
-    (a : Answer ℕ) × Answered u nothing l o a × (l' ≡ l ++ (o, a) ∷ []) × (k' ≡ k) × (reply ≡ reply_of Ligature a)
-Outcome t u k k' l l' (Err e) reply = (k' ≡ k) × (l' ≡ l) × (reply ≡ Err (Line e))
+abbrev pub CommandAnswered : Terms Pair → Terms Sequence → History Pair ℤ → History Pair ℤ → History Sequence ℕ → History Sequence ℕ → Result Command LineFault → Result Done Refusal → Type 0
+CommandAnswered t u k k' l l' (Ok (command.Kern o)) reply =
+    (a : Answer ℤ) × AnsweredByRules t nothing k o a × (k' ≡ k ++ (o, a) ∷ []) × (l' ≡ l) × (reply ≡ reply_of Kern a)
+CommandAnswered t u k k' l l' (Ok (command.Ligature o)) reply =
+    (a : Answer ℕ) × AnsweredByRules u nothing l o a × (l' ≡ l ++ (o, a) ∷ []) × (k' ≡ k) × (reply ≡ reply_of Ligature a)
+CommandAnswered t u k k' l l' (Err e) reply = (k' ≡ k) × (l' ≡ l) × (reply ≡ Err (Line e))
 
 -- what is replied to a line
 abbrev pub LineAnswered : Terms Pair → Terms Sequence → History Pair ℤ → History Pair ℤ → History Sequence ℕ → History Sequence ℕ → List ℕ → Result Done Refusal → Type 0
-LineAnswered t u k k' l l' line reply = (r : Result Command LineFault) × Meant line r × Outcome t u k k' l l' r reply
+LineAnswered t u k k' l l' line reply = (r : Result Command LineFault) × Meant line r × CommandAnswered t u k k' l l' r reply
 
 -- The text that answers lines, of which the first has that number: what is replied to each under its number, in turn.
 unfoldable pub LinesAnswered : Terms Pair → Terms Sequence → History Pair ℤ → History Sequence ℕ → ℕ → List (List ℕ) → List ℕ → Type 0
@@ -75,5 +75,5 @@ Replied contents left old new (Ok done) =
     (text : List ℕ) × InputAnswered left text × Appends (contents old) (contents new) text
 Replied contents left old new (Err Memory) = new ≡ old
 Replied contents left old new (Err Stream) =
-    (new ≡ old) ⊎ ((text : List ℕ) × InputAnswered left text × Begins (contents old) (contents new) text)
+    (new ≡ old) ⊎ ((text : List ℕ) × InputAnswered left text × AppendsBeginning (contents old) (contents new) text)
 Replied contents left old new (Err fault) = ⊥

@@ -8,7 +8,7 @@ use Rattle.filter.specs.declared.plan.Plan.{Plan}
 use Rattle.filter.proofs.Held.{front}
 use Rattle.tables.proofs.Lookups.{lookup_none}
 use Rattle.tables.specs.Rows.{keys_of}
-use Rattle.tables.specs.Meaning.{Meaning, value_in, held_in}
+use Rattle.tables.specs.Meaning.{Meaning, value_in, key_count}
 use Rattle.listtable.specs.Lists.{empty_list}
 use Rattle.history.specs.Beginnings.{nothing, list_terms}
 use Rattle.history.specs.History.{Follows}
@@ -17,12 +17,12 @@ use Rattle.history.specs.declared.call.Call.{Call}
 use Rattle.history.proofs.Rolls.{length_keys}
 use Rattle.book.specs.Books.{terms_of}
 use Rattle.book.specs.Reached.{State}
-use Rattle.kernwords.specs.Books.{PerformedOn, Performed}
+use Rattle.kernwords.specs.Books.{PerformedOn, BookPerformed}
 
 -- what a book over an empty list did
 pub performed : {K V : Type 0} (bytes : K → List ℕ) (number : K → ℕ) (plan : Plan) (words ws : List ℕ) (capacity held : ℕ) (m n : Meaning K V) (before after : List (Call K V))
-    → m ≡ empty_list capacity → held ≡ held_in n → PerformedOn bytes number plan words ws m n before after
-    → Performed (list_terms bytes number plan (block_count plan.r (length words)) capacity) (block_count plan.r (length words)) before after held
+    → m ≡ empty_list capacity → held ≡ key_count n → PerformedOn bytes number plan words ws m n before after
+    → BookPerformed (list_terms bytes number plan (block_count plan.r (length words)) capacity) (block_count plan.r (length words)) before after held
     (take (size_of plan.r (block_count plan.r (length words))) ws)
 performed {K} {V} bytes number plan words ws capacity held m n before after empty as_many d =
     let blocks = block_count plan.r (length words) in
@@ -53,7 +53,7 @@ performed {K} {V} bytes number plan words ws capacity held m n before after empt
         follows = subst (λ (v : K → Option V). Follows v d.replayed.history (value_in bytes now.table)) opening r.values;
         keys = keys_of now.table.rows;
         current = r.keys;
-        counted = as_many ∙ ap held_in d.ends.1 ∙ sym (length_keys now.table.rows);
+        counted = as_many ∙ ap key_count d.ends.1 ∙ sym (length_keys now.table.rows);
         laid = λ ks c. laid start.number d.begins.3 ks (r.words ks c);
       };
     }
@@ -67,8 +67,8 @@ blocks_exact r blocks few =
 -- the same book, its sizes written otherwise
 pub resized : {K V : Type 0} (bytes : K → List ℕ) (number : K → ℕ) (plan : Plan) (before after : List (Call K V)) (held blocks blocks' capacity capacity' : ℕ) (ws ws' : List ℕ)
     → blocks ≡ blocks' → capacity ≡ capacity' → ws ≡ ws'
-    → Performed (list_terms bytes number plan blocks capacity) blocks before after held ws
-    → Performed (list_terms bytes number plan blocks' capacity') blocks' before after held ws'
+    → BookPerformed (list_terms bytes number plan blocks capacity) blocks before after held ws
+    → BookPerformed (list_terms bytes number plan blocks' capacity') blocks' before after held ws'
 resized bytes number plan before after held blocks blocks' capacity capacity' ws ws' eb ec ew b =
-    subst (λ xs. Performed (list_terms bytes number plan blocks' capacity') blocks' before after held xs) ew
-    (subst₂ (λ x c. Performed (list_terms bytes number plan x c) x before after held ws) eb ec b)
+    subst (λ xs. BookPerformed (list_terms bytes number plan blocks' capacity') blocks' before after held xs) ew
+    (subst₂ (λ x c. BookPerformed (list_terms bytes number plan x c) x before after held ws) eb ec b)

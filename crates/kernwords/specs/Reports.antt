@@ -7,16 +7,16 @@ use Rattle.kinds.specs.Hashes.{fibonacci, fnv}
 use Rattle.kinds.specs.declared.kern.Pair.{Pair}
 use Rattle.kinds.specs.declared.sequence.Sequence.{Sequence}
 use Rattle.history.specs.History.{History}
-use Rattle.batch.specs.Batches.{Destination, Sorted}
-use Rattle.batch.specs.Reports.{refused_from, refused_text}
-use Rattle.console.specs.Sending.{Begins}
+use Rattle.batch.specs.Batches.{Destination, SortedByBook}
+use Rattle.batch.specs.Reports.{refused_from, refused_line_text}
+use Rattle.console.specs.Sending.{AppendsBeginning}
 use Rattle.console.specs.Texts.{blocks_text}
 use Rattle.console.specs.declared.fault.Fault.{Fault}
 use Rattle.console.specs.declared.fault.Fault.TheVariants.{Memory, Stream, Arguments, Filter}
 use Rattle.console.specs.declared.request.Request.{Request}
 use Rattle.history.specs.Beginnings.{list_terms}
 use Rattle.replay.specs.Replays.{call_of}
-use Rattle.kernwords.specs.Books.{Begun}
+use Rattle.kernwords.specs.Books.{BookRanFromNothing}
 use Rattle.kernwords.specs.Sizes.{KernSized, LigatureSized}
 use Rattle.kernwords.specs.declared.sizes.Size.{Size}
 use Rattle.kernwords.specs.declared.books.BookWords.{BookWords}
@@ -30,12 +30,12 @@ book_text b =
 
 -- the refused lines, each with its end, and both books
 abbrev pub report_text : Report → List ℕ
-report_text r = flat_map (λ l. refused_text l ++ (10 ∷ [])) (vec_items r.refused) ++ (codes "kern " ++ (book_text r.kerns ++ (codes "ligature " ++ book_text r.ligatures)))
+report_text r = flat_map (λ l. refused_line_text l ++ (10 ∷ [])) (vec_items r.refused) ++ (codes "kern " ++ (book_text r.kerns ++ (codes "ligature " ++ book_text r.ligatures)))
 
 -- a book of that size, over a list, began empty and performed this history, and is printed so
-pub record Kept {K V : Type 0} (bytes : K → List ℕ) (number : K → ℕ) (size : Size) (h : History K V) (b : BookWords) : Type 0 where
+pub record BookReported {K V : Type 0} (bytes : K → List ℕ) (number : K → ℕ) (size : Size) (h : History K V) (b : BookWords) : Type 0 where
   pub sized : b.size ≡ size
-  pub begun : Begun (list_terms bytes number size.plan (min size.blocks 16640) (min size.records 65536)) (min size.blocks 16640) h b.held (vec_items b.words)
+  pub begun : BookRanFromNothing (list_terms bytes number size.plan (min size.blocks 16640) (min size.records 65536)) (min size.blocks 16640) h b.held (vec_items b.words)
 
 -- What a report says of a text of edits, with a kerning book of that size.
 pub record Reported (size : Size) (text : List ℕ) (r : Report) : Type 0 where
@@ -44,10 +44,10 @@ pub record Reported (size : Size) (text : List ℕ) (r : Report) : Type 0 where
   pub ligatures : History Sequence ℕ
   -- each line goes to one book as its next operation, or nowhere
   pub lines : List Destination
-  pub sorted : Sorted (lines_of text) (map (λ e. e.0) kerns) (map (λ e. e.0) ligatures) lines
+  pub sorted : SortedByBook (lines_of text) (map (λ e. e.0) kerns) (map (λ e. e.0) ligatures) lines
   -- both books
-  pub kern : Kept pair_bytes (λ k. fibonacci k.left k.right) size kerns r.kerns
-  pub ligature : Kept sequence_bytes (λ k. fnv (sequence_bytes k)) r.ligatures.size ligatures r.ligatures
+  pub kern : BookReported pair_bytes (λ k. fibonacci k.left k.right) size kerns r.kerns
+  pub ligature : BookReported sequence_bytes (λ k. fnv (sequence_bytes k)) r.ligatures.size ligatures r.ligatures
   pub ligature_size : LigatureSized r.ligatures.size
   -- the refused lines, in order
   pub refused : vec_items r.refused ≡ refused_from 1 lines (map call_of kerns) (map call_of ligatures)
@@ -84,4 +84,4 @@ PrintDone request given left o p (Err (Filter f)) =
 PrintDone request given left o p (Err Arguments) = ⊥
 PrintDone request given left o p (Err Memory) = Sizable request × Reads given left × (p ≡ o)
 PrintDone request given left o p (Err Stream) = Sizable request × Reads given left
-    × ((p ≡ o) ⊎ ((shown : List ℕ) × Shown request given left shown × Begins o p shown))
+    × ((p ≡ o) ⊎ ((shown : List ℕ) × Shown request given left shown × AppendsBeginning o p shown))

@@ -5,7 +5,7 @@ ghost use Rattle.filter.specs.Meaning.{size_of};
 ghost use Rattle.tables.specs.Rows.{keys_of};
 ghost use Rattle.listtable.specs.Lists.{list_capacity};
 ghost use Rattle.history.specs.Beginnings.{list_terms};
-ghost use Rattle.kernwords.specs.Books.{PerformedOn, Performed};
+ghost use Rattle.kernwords.specs.Books.{PerformedOn, BookPerformed};
 
 use crate::sizes::Size;
 use book::Book;
@@ -62,7 +62,8 @@ fn perform_all<K: Kind, P: Fingerprint<K>>(
     ensures { let blocks = block_count plan.r (length words.old) in
         let number = P.Fingerprint.number by.now in
         let terms = list_terms K.Kind.bytes number plan blocks (list_capacity (length records.old)) in
-        Performed terms blocks calls.old calls.new result (take (size_of plan.r blocks) words.new) }
+        BookPerformed terms blocks calls.old calls.new result
+        (take (size_of plan.r blocks) words.new) }
 {
     let mut table = ListTable::<K>::begin(records);
     perform_on::<K, _, P>(plan, words, &mut table, by, calls);
@@ -81,7 +82,7 @@ pub fn book_after<K: Kind, P: Fingerprint<K>>(
     ensures performed { let blocks = min size.blocks 16640 in
         let number = P.Fingerprint.number by.now in
         let terms = list_terms K.Kind.bytes number size.plan blocks (list_capacity size.records) in
-        IfOk result (λ b. Performed terms blocks calls.old calls.new b.held b.words.items) }
+        IfOk result (λ b. BookPerformed terms blocks calls.old calls.new b.held b.words.items) }
 {
     let mut words = blank(heap, size.plan, size.blocks as usize)?;
     let mut records = vec![in heap; blank_record; size.records]?;

@@ -4,5 +4,5 @@ use Rattle.kinds.specs.declared.ligature.KeyFault.{KeyFault}
 use Rattle.kinds.specs.declared.ligature.KeyFault.TheVariants.{BadSequence}
 
 -- the number of a fault
-abbrev pub fault_number : KeyFault → ℕ
-fault_number BadSequence = 11
+abbrev pub key_fault_number : KeyFault → ℕ
+key_fault_number BadSequence = 11

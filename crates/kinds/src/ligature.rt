@@ -1,6 +1,6 @@
 ghost use Rattle.std.specs.Prelude.{◌≡◌, Some, decimal};
 ghost use Rattle.kinds.specs.Bytes.{sequence_bytes};
-ghost use Rattle.kinds.specs.Faults.{fault_number};
+ghost use Rattle.kinds.specs.Faults.{key_fault_number};
 ghost use Rattle.kinds.specs.Glyphs.{sequence_bytes_one};
 
 use crate::glyphs::{bytes_of_four, bytes_of_three, bytes_of_two};
@@ -19,7 +19,7 @@ pub enum KeyFault {
 impl KeyFault {
     /// The fault's number.
     pub fn number(self) -> u32
-        ensures { result ≡ fault_number self }
+        ensures { result ≡ key_fault_number self }
     {
         match self {
             KeyFault::BadSequence => 11,
@@ -30,7 +30,7 @@ impl KeyFault {
 /// The fault's number, as it is printed.
 // kept: Display is implemented for one type at a time, and no macro of the repository may write impls.
 impl fmt::Display for KeyFault {
-    ghost output = { λ f. Some (decimal (fault_number f)) };
+    ghost output = { λ f. Some (decimal (key_fault_number f)) };
 
     fn fmt<W: fmt::Write>(&self, f: &mut fmt::Formatter<W>) -> fmt::Result {
         write!(f, "{}", self.number())

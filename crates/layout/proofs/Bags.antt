@@ -5,9 +5,9 @@ use Rattle.std.proofs.ByRecursion.{kept_by_passes}
 use Rattle.std.proofs.lemmas.List.Sums.{length-filter}
 use Rattle.std.proofs.lemmas.Bool.{cases_lt, cases_eq, cond-true, cond-false, eq-eqb, ne_eqb, lt-ltb, le-ltb, eqb-true}
 use Rattle.layout.specs.Load.{load, start}
-use Rattle.layout.specs.Rule.{bit, quotient, remainder, Sorted, insert, remove, sorted, laid, used_at, remainder_at, runend_at, offset_at, many, occupied_at}
+use Rattle.layout.specs.Rule.{one_if, quotient, remainder, Sorted, with_one, without_one, sorted, laid, used_at, remainder_at, runend_at, offset_at, many, occupied_at}
 use Rattle.layout.specs.Runs.{fingerprint_at, remainders, PlaceLaw}
-use Rattle.layout.specs.Laws.{count, CountLaw, FindLaw, FreeLaw, RemoveOccupiedLaw}
+use Rattle.layout.specs.Laws.{copies_of, CountLaw, FindLaw, FreeLaw, RemoveOccupiedLaw}
 use Rattle.layout.proofs.Bridge.{at_entry, layout_law, offset_law}
 use Rattle.layout.proofs.Moves.{used_is, bit_pos, bit_zero}
 use Rattle.layout.proofs.Inserts.{kept_insert, kept_remove, insert_front, length_insert, eqb_rems, one_remove}
@@ -21,39 +21,39 @@ place_law r ps s c j l =
     )
 
 -- of a list of which each element is p
-length_remove_same : (p : ℕ) (ps : List ℕ) → Every (λ q. eqb q p ≡ true) ps → length (remove p ps) ≡ length ps - 1
-unfolding remove
+length_remove_same : (p : ℕ) (ps : List ℕ) → Every (λ q. eqb q p ≡ true) ps → length (without_one p ps) ≡ length ps - 1
+unfolding without_one
 length_remove_same p [] a = omega arith
 length_remove_same p (q ∷ qs) (e, a) = rw (eq-eqb p q (sym (eqb-true q p e))) (omega arith)
 
-pub is_sorted : (ps : List ℕ) → Sorted ps → sorted ps ≡ ps
+pub sorted_of_Sorted : (ps : List ℕ) → Sorted ps → sorted ps ≡ ps
 unfolding sorted
-is_sorted [] s = refl
-is_sorted (p ∷ ps) (k, s) = ap (insert p) (is_sorted ps s) ∙ insert_front p ps k
+sorted_of_Sorted [] s = refl
+sorted_of_Sorted (p ∷ ps) (k, s) = ap (with_one p) (sorted_of_Sorted ps s) ∙ insert_front p ps k
 
 pub count_law : CountLaw
 count_law p q ps =
     let t : ℕ → Bool = λ x. eqb x q in
-    let by : (xs : List ℕ) → count q xs ≡ length (filter t xs) = λ xs. sym (length-filter t xs) in
-    let more : Sorted ps → length (filter t (insert p ps)) ≡ length (filter t ps) + bit (eqb p q) =
+    let by : (xs : List ℕ) → copies_of q xs ≡ length (filter t xs) = λ xs. sym (length-filter t xs) in
+    let more : Sorted ps → length (filter t (with_one p ps)) ≡ length (filter t ps) + one_if (eqb p q) =
     λ s. ap length (kept_insert t p ps s)
-    ∙ elim (eqb p q) as (λ b. length (cond b (insert p (filter t ps)) (filter t ps)) ≡ length (filter t ps) + bit b)
+    ∙ elim (eqb p q) as (λ b. length (cond b (with_one p (filter t ps)) (filter t ps)) ≡ length (filter t ps) + one_if b)
     [ true ↦ omega (arith, length_insert p (filter t ps)) | false ↦ omega arith ] in
-    let less : length (filter t (remove p ps)) ≡ length (filter t ps) - bit (eqb p q) =
+    let less : length (filter t (without_one p ps)) ≡ length (filter t ps) - one_if (eqb p q) =
     ap length (kept_remove t p ps)
     ∙ ⊎_elim
     (λ (e : p ≡ q).
-    let one : bit (eqb p q) ≡ 1 = cond-true (eqb p q) 1 0 (eq-eqb p q e) in
+    let one : one_if (eqb p q) ≡ 1 = cond-true (eqb p q) 1 0 (eq-eqb p q e) in
     ap length (cond-true (eqb p q) _ _ (eq-eqb p q e))
     ∙ omega (arith, one, length_remove_same p (filter t ps) (subst (λ z. Every (λ x. eqb x z ≡ true) (filter t ps)) (sym e) (kept_by_passes t ps))))
     (λ (e : p ≢ q).
-    let none : bit (eqb p q) ≡ 0 = cond-false (eqb p q) 1 0 (ne_eqb p q e) in
+    let none : one_if (eqb p q) ≡ 0 = cond-false (eqb p q) 1 0 (ne_eqb p q e) in
     ap length (cond-false (eqb p q) _ _ (ne_eqb p q e)) ∙ omega (arith, none))
     (cases_eq p q) in (
       by (sorted ps) ∙ count_sorted t ps ∙ sym (by ps),
-      λ s. by (insert p ps) ∙ more s ∙ ap (λ n. n + bit (eqb p q)) (sym (by ps)),
-      by (remove p ps) ∙ less ∙ ap (λ n. n - bit (eqb p q)) (sym (by ps)),
-      is_sorted ps,
+      λ s. by (with_one p ps) ∙ more s ∙ ap (λ n. n + one_if (eqb p q)) (sym (by ps)),
+      by (without_one p ps) ∙ less ∙ ap (λ n. n - one_if (eqb p q)) (sym (by ps)),
+      sorted_of_Sorted ps,
     )
 
 kept_remainders : (r p : ℕ) (ps : List ℕ) → length (filter (λ x. eqb x p) ps) ≡ length (filter (λ x. eqb x (remainder r p)) (remainders r ps (quotient r p)))
@@ -83,7 +83,7 @@ free_law r ps s c u l z full =
       used = λ x lo hi. ⊎_elim (λ (g : 0 < sum x). g) (λ (g : sum x ≤ 0). absurd (omega (arith, full x lo hi, at x, bit_zero (sum x) (omega arith)))) (cases_lt 0 (sum x));
     }
 
-one_left : (a b : ℕ) → b ≡ suc a → bit (ltb 0 a) ≡ bit (ltb 1 b)
+one_left : (a b : ℕ) → b ≡ suc a → one_if (ltb 0 a) ≡ one_if (ltb 1 b)
 one_left a b e =
     ⊎_elim (λ (g : 0 < a). bit_pos a g ∙ sym (cond-true (ltb 1 b) 1 0 (lt-ltb 1 b (omega arith))))
     (λ (g : a ≤ 0). bit_zero a (omega arith) ∙ sym (cond-false (ltb 1 b) 1 0 (le-ltb 1 b (omega arith)))) (cases_lt 0 a)
@@ -93,8 +93,8 @@ remove_occupied_law r p ps j s l e x =
     let one = one_remove r p ps s j l e in
     ⊎_elim
     (λ (z : x ≡ quotient r p).
-    one_left (many r (remove p ps) x) (many r ps x) (ap (many r ps) z ∙ one.here ∙ ap (λ y. suc (many r (remove p ps) y)) (sym z))
-    ∙ sym (cond-true (eqb x (quotient r p)) (bit (ltb 1 (many r ps x))) (occupied_at r ps x) (eq-eqb x (quotient r p) z)))
+    one_left (many r (without_one p ps) x) (many r ps x) (ap (many r ps) z ∙ one.here ∙ ap (λ y. suc (many r (without_one p ps) y)) (sym z))
+    ∙ sym (cond-true (eqb x (quotient r p)) (one_if (ltb 1 (many r ps x))) (occupied_at r ps x) (eq-eqb x (quotient r p) z)))
     (λ (z : x ≢ quotient r p).
-    ap (λ k. bit (ltb 0 k)) (sym (one.other x z)) ∙ sym (cond-false (eqb x (quotient r p)) (bit (ltb 1 (many r ps x))) (occupied_at r ps x) (ne_eqb x (quotient r p) z)))
+    ap (λ k. one_if (ltb 0 k)) (sym (one.other x z)) ∙ sym (cond-false (eqb x (quotient r p)) (one_if (ltb 1 (many r ps x))) (occupied_at r ps x) (ne_eqb x (quotient r p) z)))
     (cases_eq x (quotient r p))

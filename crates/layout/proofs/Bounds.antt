@@ -5,7 +5,7 @@ use Rattle.std.proofs.lemmas.List.{length-map}
 use Rattle.std.proofs.ByRecursion.{All-get_or}
 use Rattle.std.proofs.lemmas.Bool.{cases_lt, cases_eq, cond-false, eq-eqb, ne_eqb, le-leb, lt-leb, and_left}
 use Rattle.layout.specs.Load.{load, StartLaw, CellsLaw, FirstIdle}
-use Rattle.layout.specs.Rule.{bit, quotient, remainder, Sorted, insert, remove, sorted, Entry, laid, at, used_at, runend_at, others, offset_at, run, many, many_from}
+use Rattle.layout.specs.Rule.{one_if, quotient, remainder, Sorted, with_one, without_one, sorted, Entry, laid, reading_at, used_at, runend_at, others, offset_at, quotient_run, many, many_from}
 use Rattle.layout.specs.Runs.{remainders}
 use Rattle.layout.specs.Laws.{WithinLaw, EmptyLaw, FitLaw, BagLaw, StopSlotsLaw, BalanceSlotsLaw, IdleLaw}
 use Rattle.layout.proofs.Loads.{load_step, cell_of}
@@ -20,8 +20,8 @@ use Rattle.layout.proofs.Stops.{stop_law, balance_law}
 pub start_law : StartLaw
 start_law m x = omega (arith, load_step m x)
 
-at_past : {X : Type 0} (f : ℕ → List Entry → X) (d : X) (slots : ℕ) (es : List Entry) → Every (λ e. e.slot < slots) es → (s : ℕ) → slots ≤ s → at f d es s ≡ d
-unfolding at
+at_past : {X : Type 0} (f : ℕ → List Entry → X) (d : X) (slots : ℕ) (es : List Entry) → Every (λ e. e.slot < slots) es → (s : ℕ) → slots ≤ s → reading_at f d es s ≡ d
+unfolding reading_at
 at_past f d slots [] a s l = refl
 at_past f d slots (e ∷ es) (g, a) s l = cond-false (eqb s e.slot) _ _ (ne_eqb s e.slot (λ z. omega arith)) ∙ at_past f d slots es a s l
 
@@ -30,7 +30,7 @@ unfolding offset_at
 late_past r slots [] a x l = refl
 late_past r slots (e ∷ es) (g, a) x l =
     let t : Bool = leb x e.slot && ltb (quotient r e.fingerprint) x in
-    let z : bit t ≡ 0 = cond-false t 1 0 (and_left (leb x e.slot) (ltb (quotient r e.fingerprint) x) (lt-leb x e.slot (omega arith))) in
+    let z : one_if t ≡ 0 = cond-false t 1 0 (and_left (leb x e.slot) (ltb (quotient r e.fingerprint) x) (lt-leb x e.slot (omega arith))) in
     omega (arith, z, late_past r slots es a x l)
 
 pub within_law : WithinLaw
@@ -43,7 +43,7 @@ within_law slots r ps s h =
       size = omega (arith, n 0);
       used = at_past (λ p later. 1) 0 slots (laid r 0 ps) a;
       rem = at_past (λ p later. remainder r p) 0 slots (laid r 0 ps) a;
-      end = at_past (λ p later. bit (others r (quotient r p) later)) 0 slots (laid r 0 ps) a;
+      end = at_past (λ p later. one_if (others r (quotient r p) later)) 0 slots (laid r 0 ps) a;
       occ = λ c l. bit_zero (many r ps c) (omega (arith, tails r ps s c, n c));
       past = late_past r slots (laid r 0 ps) a;
       offset = λ x l. omega (arith, offset_law r ps s x, w x l);
@@ -51,7 +51,7 @@ within_law slots r ps s h =
     }
 
 pub empty_law : EmptyLaw
-unfolding at laid offset_at
+unfolding reading_at laid offset_at
 empty_law slots r x = (λ c l. omega arith, refl, refl, refl, refl, refl)
 
 -- ---- the place of a newcomer
@@ -66,8 +66,8 @@ rises (x ∷ l) (a, s) (suc i) (suc k) le g = rises l s i k (omega arith) (omega
 pub fit_law : FitLaw
 fit_law r ps s c =
     let l : List ℕ = remainders r ps c in
-    let up : Sorted l = sorted_rems r c (run r ps c) (run_all r ps c) (sorted_kept (λ q. eqb (quotient r q) c) ps s) in
-    let len : length l ≡ many r ps c = length-map (run r ps c) (remainder r) in (
+    let up : Sorted l = sorted_rems r c (quotient_run r ps c) (run_all r ps c) (sorted_kept (λ q. eqb (quotient r q) c) ps s) in
+    let len : length l ≡ many r ps c = length-map (quotient_run r ps c) (remainder r) in (
       up,
       λ i k le g. rises l up i k le (omega arith),
       λ j v le lo hi. record {
@@ -79,15 +79,15 @@ fit_law r ps s c =
 
 -- ---- lists in any order
 
-remove_insert : (p : ℕ) (ps : List ℕ) → remove p (insert p ps) ≡ ps
-unfolding remove insert
+remove_insert : (p : ℕ) (ps : List ℕ) → without_one p (with_one p ps) ≡ ps
+unfolding without_one with_one
 remove_insert p [] = rw (eq-eqb p p refl) refl
 remove_insert p (q ∷ qs) =
     ⊎_elim (λ (l : q < p). rw (lt-leb p q l) (rw (ne_eqb p q (λ e. omega arith)) (ap {B = List ℕ} (λ z. q ∷ z) (remove_insert p qs))))
     (λ (l : p ≤ q). rw (le-leb p q l) (rw (eq-eqb p p refl) refl)) (cases_lt q p)
 
-swap : (p q : ℕ) → p ≢ q → (l : List ℕ) → Sorted l → insert q (remove p l) ≡ remove p (insert q l)
-unfolding remove insert
+swap : (p q : ℕ) → p ≢ q → (l : List ℕ) → Sorted l → with_one q (without_one p l) ≡ without_one p (with_one q l)
+unfolding without_one with_one
 swap p q ne [] s = rw (ne_eqb p q ne) refl
 swap p q ne (x ∷ xs) (a, s) =
     ⊎_elim
@@ -95,16 +95,16 @@ swap p q ne (x ∷ xs) (a, s) =
     (λ (e : p ≡ x). rw (eq-eqb p x e) refl)
     (λ (e : p ≢ x). rw (ne_eqb p x e) (rw (lt-leb q x l) (ap {B = List ℕ} (λ z. x ∷ z) (swap p q ne xs s)))) (cases_eq p x)))
     (λ (l : q ≤ x). rw (le-leb q x l) (rw (ne_eqb p q ne)
-    (insert_front q (remove p (x ∷ xs)) (all_remove (λ y. q ≤ y) p (x ∷ xs) (l, all_from q x xs l a)))))
+    (insert_front q (without_one p (x ∷ xs)) (all_remove (λ y. q ≤ y) p (x ∷ xs) (l, all_from q x xs l a)))))
     (cases_lt x q)
 
-sorted_removed : (p : ℕ) (ps : List ℕ) → sorted (remove p ps) ≡ remove p (sorted ps)
-unfolding sorted remove
+sorted_removed : (p : ℕ) (ps : List ℕ) → sorted (without_one p ps) ≡ without_one p (sorted ps)
+unfolding sorted without_one
 sorted_removed p [] = refl
 sorted_removed p (q ∷ qs) =
     ⊎_elim
-    (λ (e : p ≡ q). rw (eq-eqb p q e) (sym (remove_insert p (sorted qs)) ∙ ap (λ x. remove p (insert x (sorted qs))) e))
-    (λ (e : p ≢ q). rw (ne_eqb p q e) (ap (insert q) (sorted_removed p qs) ∙ swap p q e (sorted qs) (sorted_sorted qs)))
+    (λ (e : p ≡ q). rw (eq-eqb p q e) (sym (remove_insert p (sorted qs)) ∙ ap (λ x. without_one p (with_one x (sorted qs))) e))
+    (λ (e : p ≢ q). rw (ne_eqb p q e) (ap (with_one q) (sorted_removed p qs) ∙ swap p q e (sorted qs) (sorted_sorted qs)))
     (cases_eq p q)
 
 pub bag_law : BagLaw

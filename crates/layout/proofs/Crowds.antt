@@ -1,7 +1,7 @@
 -- No place is crowded just where the queue serves all.
 use Rattle.std.proofs.Common.{◌≡◌, ℕ, zero, suc, ◌+◌, ◌-◌, ◌<◌, ◌≤◌, ap, ◌∙◌, ⊎_elim, arith}
 use Rattle.std.proofs.lemmas.Bool.{cases_lt}
-use Rattle.layout.specs.Load.{load, Tails, Uncrowded, Served, CrowdingLaw, InsertCrowdingLaw}
+use Rattle.layout.specs.Load.{load, Tails, Uncrowded, ServesAll, CrowdingLaw, InsertCrowdingLaw}
 use Rattle.layout.proofs.Loads.{load_step, load_none, above_c, raised}
 
 module _ (slots : ℕ) (m from : ℕ → ℕ) (tails : Tails m from) where
@@ -10,18 +10,18 @@ module _ (slots : ℕ) (m from : ℕ → ℕ) (tails : Tails m from) where
   room h (suc x) l = omega (arith, load_step m x, tails x, h (suc x), room h x (omega arith))
 
   -- d slots before the end
-  back : Served slots m from → (d x : ℕ) → x + d ≡ slots → load m x + from x ≤ slots - x
+  back : ServesAll slots m from → (d x : ℕ) → x + d ≡ slots → load m x + from x ≤ slots - x
   back s zero x e = let z : x ≡ slots = omega arith in omega (arith, s.0, s.1, ap (load m) z, ap from z)
   back s (suc d) x e = omega (arith, load_step m x, tails x, back s d (suc x) (omega arith))
 
-  past : Served slots m from → (d : ℕ) → from (slots + d) ≡ 0
+  past : ServesAll slots m from → (d : ℕ) → from (slots + d) ≡ 0
   past s zero = let z : slots + 0 ≡ slots = omega arith in ap from z ∙ s.1
   past s (suc d) = let z : suc (slots + d) ≡ slots + suc d = omega arith in omega (arith, tails (slots + d), past s d, ap from z)
 
-  pub served : Uncrowded slots from → Served slots m from
+  pub served : Uncrowded slots from → ServesAll slots m from
   served h = (omega (arith, room h slots (omega arith)), omega (arith, h slots))
 
-  pub uncrowded : Served slots m from → Uncrowded slots from
+  pub uncrowded : ServesAll slots m from → Uncrowded slots from
   uncrowded s c =
       ⊎_elim (λ (l : slots < c). let z : slots + (c - slots) ≡ c = omega arith in omega (arith, past s (c - slots), ap from z))
       (λ (l : c ≤ slots). omega (arith, back s (slots - c) c (omega arith))) (cases_lt slots c)

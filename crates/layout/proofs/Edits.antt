@@ -2,7 +2,7 @@
 use Rattle.std.proofs.Common.{◌≡◌, ℕ, zero, suc, ◌-◌, ◌<◌, ◌≤◌, Bool, true, false, ◌&&◌, eqb, ltb, leb, ◌≢◌, sym, ap, ◌∙◌, subst, ⊎_elim, arith}
 use Rattle.std.proofs.lemmas.Bool.{cases_lt, cases_eq, cond-true, cond-false, eq-eqb, ne_eqb, le-leb, lt-leb, lt-ltb, le-ltb, and_from, and_left, and_right}
 use Rattle.layout.specs.Load.{load, OneMore, FirstFree, FirstIdle, Lowered}
-use Rattle.layout.specs.Rule.{bit, quotient, remainder, insert, remove, laid, used_at, remainder_at, runend_at, many, occupied_at}
+use Rattle.layout.specs.Rule.{one_if, quotient, remainder, with_one, without_one, laid, used_at, remainder_at, runend_at, many, occupied_at}
 use Rattle.layout.specs.Runs.{remainders}
 use Rattle.layout.specs.Moves.{InsertSlotsLaw, RemoveSlotsLaw, InsertOffsetsLaw, RemoveOffsetsLaw, InsertOccupiedLaw}
 use Rattle.layout.proofs.Loads.{load_step, raised, lowered}
@@ -27,34 +27,34 @@ free_before m n c (suc t) one f =
 
 pub insert_slots_law : InsertSlotsLaw
 insert_slots_law r p ps j u s f fit =
-    slots_law (many r ps) (many r (insert p ps)) (remainders r ps) (remainders r (insert p ps)) (quotient r p) j u (remainder r p)
+    slots_law (many r ps) (many r (with_one p ps)) (remainders r ps) (remainders r (with_one p ps)) (quotient r p) j u (remainder r p)
     (used_at (laid r 0 ps)) (remainder_at r (laid r 0 ps)) (runend_at r (laid r 0 ps))
-    (used_at (laid r 0 (insert p ps))) (remainder_at r (laid r 0 (insert p ps))) (runend_at r (laid r 0 (insert p ps)))
-    (layout_law r ps s) (layout_law r (insert p ps) (sorted_insert p ps s)) (one_insert r p ps s) f (put_insert r p ps s j fit)
+    (used_at (laid r 0 (with_one p ps))) (remainder_at r (laid r 0 (with_one p ps))) (runend_at r (laid r 0 (with_one p ps)))
+    (layout_law r ps s) (layout_law r (with_one p ps) (sorted_insert p ps s)) (one_insert r p ps s) f (put_insert r p ps s j fit)
 
 pub remove_slots_law : RemoveSlotsLaw
 remove_slots_law r p ps j t s l e f =
-    slots_law (many r (remove p ps)) (many r ps) (remainders r (remove p ps)) (remainders r ps) (quotient r p) j (t - 1) (remainder r p)
-    (used_at (laid r 0 (remove p ps))) (remainder_at r (laid r 0 (remove p ps))) (runend_at r (laid r 0 (remove p ps)))
+    slots_law (many r (without_one p ps)) (many r ps) (remainders r (without_one p ps)) (remainders r ps) (quotient r p) j (t - 1) (remainder r p)
+    (used_at (laid r 0 (without_one p ps))) (remainder_at r (laid r 0 (without_one p ps))) (runend_at r (laid r 0 (without_one p ps)))
     (used_at (laid r 0 ps)) (remainder_at r (laid r 0 ps)) (runend_at r (laid r 0 ps))
-    (layout_law r (remove p ps) (sorted_remove p ps s)) (layout_law r ps s) (one_remove r p ps s j l e)
-    (free_before (many r (remove p ps)) (many r ps) (quotient r p) t (one_remove r p ps s j l e) f) (put_remove r p ps s j l e)
+    (layout_law r (without_one p ps) (sorted_remove p ps s)) (layout_law r ps s) (one_remove r p ps s j l e)
+    (free_before (many r (without_one p ps)) (many r ps) (quotient r p) t (one_remove r p ps s j l e) f) (put_remove r p ps s j l e)
 
-bit_and : (a b : Bool) → (a ≡ true) → (b ≡ true) → bit (a && b) ≡ 1
+bit_and : (a b : Bool) → (a ≡ true) → (b ≡ true) → one_if (a && b) ≡ 1
 bit_and a b e h = cond-true (a && b) 1 0 (and_from a b e h)
 
-bit_left : (a b : Bool) → a ≡ false → bit (a && b) ≡ 0
+bit_left : (a b : Bool) → a ≡ false → one_if (a && b) ≡ 0
 bit_left a b e = cond-false (a && b) 1 0 (and_left a b e)
 
-bit_right : (a b : Bool) → b ≡ false → bit (a && b) ≡ 0
+bit_right : (a b : Bool) → b ≡ false → one_if (a && b) ≡ 0
 bit_right a b e = cond-false (a && b) 1 0 (and_right a b e)
 
 pub insert_offsets_law : InsertOffsetsLaw
 insert_offsets_law r p ps u s f x =
     let c : ℕ = quotient r p in
-    let up = raised (many r ps) (many r (insert p ps)) (quotient r p) (one_insert r p ps s) u f in
+    let up = raised (many r ps) (many r (with_one p ps)) (quotient r p) (one_insert r p ps s) u f in
     let a = offset_law r ps s x in
-    let b = offset_law r (insert p ps) (sorted_insert p ps s) x in
+    let b = offset_law r (with_one p ps) (sorted_insert p ps s) x in
     ⊎_elim
     (λ (l : quotient r p < x). ⊎_elim
     (λ (g : u < x). omega (arith, a, b, up.after x g, bit_right (ltb (quotient r p) x) (leb x u) (lt-leb x u g)))
@@ -65,9 +65,9 @@ insert_offsets_law r p ps u s f x =
 
 pub remove_offsets_law : RemoveOffsetsLaw
 remove_offsets_law r p ps j t s h e f x =
-    let low = lowered (many r (remove p ps)) (many r ps) (quotient r p) (one_remove r p ps s j h e) t f in
+    let low = lowered (many r (without_one p ps)) (many r ps) (quotient r p) (one_remove r p ps s j h e) t f in
     let a = offset_law r ps s x in
-    let b = offset_law r (remove p ps) (sorted_remove p ps s) x in
+    let b = offset_law r (without_one p ps) (sorted_remove p ps s) x in
     ⊎_elim
     (λ (l : quotient r p < x). ⊎_elim
     (λ (g : x < t). omega (arith, a, b, low.within x l g, bit_and (ltb (quotient r p) x) (ltb x t) (lt-ltb (quotient r p) x l) (lt-ltb x t g)))
@@ -80,6 +80,6 @@ pub insert_occupied_law : InsertOccupiedLaw
 insert_occupied_law r p ps s x =
     let one = one_insert r p ps s in
     ⊎_elim
-    (λ (e : x ≡ quotient r p). bit_pos (many r (insert p ps) x) (omega (arith, ap (many r (insert p ps)) e, one.here)) ∙ sym (cond-true (eqb x (quotient r p)) 1 (occupied_at r ps x) (eq-eqb x (quotient r p) e)))
-    (λ (e : x ≢ quotient r p). ap (λ k. bit (ltb 0 k)) (one.other x e) ∙ sym (cond-false (eqb x (quotient r p)) 1 (occupied_at r ps x) (ne_eqb x (quotient r p) e)))
+    (λ (e : x ≡ quotient r p). bit_pos (many r (with_one p ps) x) (omega (arith, ap (many r (with_one p ps)) e, one.here)) ∙ sym (cond-true (eqb x (quotient r p)) 1 (occupied_at r ps x) (eq-eqb x (quotient r p) e)))
+    (λ (e : x ≢ quotient r p). ap (λ k. one_if (ltb 0 k)) (one.other x e) ∙ sym (cond-false (eqb x (quotient r p)) 1 (occupied_at r ps x) (ne_eqb x (quotient r p) e)))
     (cases_eq x (quotient r p))

@@ -2,15 +2,16 @@
 use Rattle.std.proofs.Common.{◌≡◌, ℕ, ◌+◌, ◌-◌, ◌*◌, ◌/◌, ◌%◌, cond, eqb, ltb, List, map, ap, ap₂}
 use mathlib.Core.Path.{fun_ext}
 use Rattle.std.specs.List.{range_with_len}
-use Rattle.words.specs.Bits.{bits, bit_at}
-use Rattle.layout.specs.Rule.{bit, quotient, sorted, Entry, laid, occupied_at, runend_at, offset_at, remainder_at}
+use Rattle.std.specs.Int.{bit_at}
+use Rattle.words.specs.Bits.{bits}
+use Rattle.layout.specs.Rule.{one_if, quotient, sorted, Entry, laid, occupied_at, runend_at, offset_at, remainder_at}
 use Rattle.layout.specs.Format.{block_word, filter_words}
 use Rattle.layout.proofs.Bags.{count_law}
 use Rattle.layout.proofs.Inserts.{sorted_sorted}
 use Rattle.layout.proofs.Rooms.{count_sorted}
 
 pub occupied_sorted : (r : ℕ) (ps : List ℕ) (c : ℕ) → occupied_at r (sorted ps) c ≡ occupied_at r ps c
-occupied_sorted r ps c = ap (λ n. bit (ltb 0 n)) (count_sorted (λ p. eqb (quotient r p) c) ps)
+occupied_sorted r ps c = ap (λ n. one_if (ltb 0 n)) (count_sorted (λ p. eqb (quotient r p) c) ps)
 
 word_any_order : (r : ℕ) (ps : List ℕ) (b m : ℕ) → block_word r (sorted ps) b m ≡ block_word r ps b m
 unfolding block_word

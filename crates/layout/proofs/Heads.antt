@@ -1,13 +1,13 @@
 -- Where a run starts and stops, by the ends of runs that are counted from some slot on: its own, or a later one up to its start.
 use Rattle.std.proofs.Common.{◌≡◌, ℕ, suc, ◌+◌, ◌-◌, ◌<◌, ◌≤◌, ap, ⊎_elim, arith}
 use Rattle.std.proofs.lemmas.Bool.{cases_lt}
-use Rattle.layout.specs.Load.{start, busy, tally, rank, Select, Ends}
+use Rattle.layout.specs.Load.{start, busy, tally, rank, Select, EndsRuns}
 use Rattle.layout.proofs.Moves.{bit_pos}
 use Rattle.layout.proofs.Ranks.{tally_step, tally_mono, rank_is, selected}
 use Rattle.layout.proofs.Rooms.{select_one_law}
 use Rattle.layout.proofs.Stops.{before_law}
 
-module _ (m end : ℕ → ℕ) (ends : Ends m end) where
+module _ (m end : ℕ → ℕ) (ends : EndsRuns m end) where
   -- x lies from c up to the start of c
   module _ (c x : ℕ) (lo : c ≤ x) (hi : x ≤ start m c) where
     -- where no run ends from x up to that start, it is x itself

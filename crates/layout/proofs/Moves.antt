@@ -2,9 +2,9 @@
 use Rattle.std.proofs.Common.{◌≡◌, ℕ, zero, suc, ◌+◌, ◌-◌, ◌<◌, ◌≤◌, eqb, ltb, ◌≢◌, ◌⊎◌, List, [], ◌∷◌, ◌++◌, length, get_or, take, drop, sym, refl, ap, ◌∙◌, ap₂, inl, inr, ⊎_elim, arith}
 use Rattle.std.proofs.lemmas.Bool.{cases_lt, cases_eq, cases_order, cond-true, cond-false, lt-ltb, le-ltb}
 use Rattle.layout.specs.Load.{load, start, OneMore, FirstFree, Raised}
-use Rattle.layout.specs.Rule.{bit}
+use Rattle.layout.specs.Rule.{one_if}
 use Rattle.layout.specs.Runs.{InRuns}
-use Rattle.layout.specs.Moves.{Put, Inserted, SlotsLaw}
+use Rattle.layout.specs.Moves.{PutInRun, Inserted, SlotsLaw}
 use Rattle.layout.proofs.Loads.{load_step, start_mono, cell_of, raised, jump_law}
 use Rattle.layout.proofs.Ranks.{bit_eq, bit_ne}
 use Rattle.layout.proofs.Bridge.{empty}
@@ -30,7 +30,7 @@ put_above (x ∷ l) (suc j) (suc i) v g h = put_above l j i v (omega arith) (ome
 
 -- ---- a slot is used just where something waits there or comes there
 
-pub used_is : (m : ℕ → ℕ) (R : ℕ → List ℕ) (used rem end : ℕ → ℕ) → InRuns m R used rem end → (s : ℕ) → used s ≡ bit (ltb 0 (load m s + m s))
+pub used_is : (m : ℕ → ℕ) (R : ℕ → List ℕ) (used rem end : ℕ → ℕ) → InRuns m R used rem end → (s : ℕ) → used s ≡ one_if (ltb 0 (load m s + m s))
 used_is m R used rem end h s =
     let c = cell_of m s in
     let x : ℕ = c.0 in
@@ -43,18 +43,18 @@ used_is m R used rem end h s =
     ∙ sym (cond-false (ltb 0 (load m s + m s)) 1 0 (le-ltb 0 (load m s + m s) (omega (arith, c.2, c.3, load_step m x, ap m z, ap (load m) z)))))
     (cases_lt 0 (m x))
 
-bit_same : (a b c d : ℕ) → (a ≡ b → c ≡ d) → (c ≡ d → a ≡ b) → bit (eqb a b) ≡ bit (eqb c d)
+bit_same : (a b c d : ℕ) → (a ≡ b → c ≡ d) → (c ≡ d → a ≡ b) → one_if (eqb a b) ≡ one_if (eqb c d)
 bit_same a b c d h k =
     ⊎_elim (λ e. bit_eq a b e ∙ sym (bit_eq c d (h e))) (λ e. bit_ne a b e ∙ sym (bit_ne c d (λ z. e (k z)))) (cases_eq a b)
 
-pub bit_pos : (k : ℕ) → 0 < k → bit (ltb 0 k) ≡ 1
+pub bit_pos : (k : ℕ) → 0 < k → one_if (ltb 0 k) ≡ 1
 bit_pos k l = cond-true (ltb 0 k) 1 0 (lt-ltb 0 k l)
 
-pub bit_zero : (k : ℕ) → k ≡ 0 → bit (ltb 0 k) ≡ 0
+pub bit_zero : (k : ℕ) → k ≡ 0 → one_if (ltb 0 k) ≡ 0
 bit_zero k l = cond-false (ltb 0 k) 1 0 (le-ltb 0 k (omega arith))
 
 module _ (m n : ℕ → ℕ) (R R' : ℕ → List ℕ) (c j u v : ℕ) (used rem end used' rem' end' : ℕ → ℕ)
-    (old : InRuns m R used rem end) (new : InRuns n R' used' rem' end') (one : OneMore m n c) (f : FirstFree m c u) (put : Put R R' c j v) where
+    (old : InRuns m R used rem end) (new : InRuns n R' used' rem' end') (one : OneMore m n c) (f : FirstFree m c u) (put : PutInRun R R' c j v) where
   up : Raised m n c u
   up = raised m n c one u f
 
@@ -76,7 +76,7 @@ module _ (m n : ℕ → ℕ) (R R' : ℕ → List ℕ) (c j u v : ℕ) (used rem
 
   -- below the newcomer: the same run at the same place
   lower_cell : (s : ℕ) → s < start m c + j
-      → (rem' s ≡ rem s) × ((end' s ≡ end s) ⊎ ((end' s ≡ 0) × (start m c ≤ s) × (end s ≡ bit (eqb (suc s) (start m c + m c)))))
+      → (rem' s ≡ rem s) × ((end' s ≡ end s) ⊎ ((end' s ≡ 0) × (start m c ≤ s) × (end s ≡ one_if (eqb (suc s) (start m c + m c)))))
   lower_cell s l =
       let w = cell_of n s in
       let x : ℕ = w.0 in
@@ -96,12 +96,12 @@ module _ (m n : ℕ → ℕ) (R R' : ℕ → List ℕ) (c j u v : ℕ) (used rem
       let b : start n (suc x) ≡ start m (suc x) = omega (arith, up.before (suc x) (omega arith)) in
       let k : n x ≡ m x = one.other x (λ e. omega arith) in (
         new.holds x s w.2 w.3 ∙ ap₂ (λ l i. get_or l (s - i) 0) (put.other x (λ e. omega arith)) a ∙ sym (old.holds x s (omega (arith, w.2)) (omega (arith, w.3))),
-        inl (new.ends x s w.2 w.3 ∙ ap₂ (λ y z. bit (eqb (suc s) (y + z))) a k ∙ sym (old.ends x s (omega (arith, w.2)) (omega (arith, w.3)))),
+        inl (new.ends x s w.2 w.3 ∙ ap₂ (λ y z. one_if (eqb (suc s) (y + z))) a k ∙ sym (old.ends x s (omega (arith, w.2)) (omega (arith, w.3)))),
       ))
       (λ (g : c < x). absurd (omega (arith, w.2, start_mono n (suc c) x g, next_c, le))) o)
       (cases_order x c)
 
-  here_cell : (rem' (start m c + j) ≡ v) × (end' (start m c + j) ≡ bit (eqb j (m c)))
+  here_cell : (rem' (start m c + j) ≡ v) × (end' (start m c + j) ≡ one_if (eqb j (m c)))
   here_cell =
       let s : ℕ = start m c + j in
       let lo : start n c ≤ s = omega (arith, start_c) in
@@ -154,7 +154,7 @@ module _ (m n : ℕ → ℕ) (R R' : ℕ → List ℕ) (c j u v : ℕ) (used rem
       let ne : x ≢ c = λ e. omega (arith, f.from) in
       let k : n x ≡ m x = one.other x ne in (
         new.holds x s (omega (arith, w.2)) (omega (arith, w.3)) ∙ ap₂ (λ l i. get_or l (s - i) 0) (put.other x ne) a ∙ sym (old.holds x s w.2 w.3),
-        new.ends x s (omega (arith, w.2)) (omega (arith, w.3)) ∙ ap₂ (λ y z. bit (eqb (suc s) (y + z))) a k ∙ sym (old.ends x s w.2 w.3),
+        new.ends x s (omega (arith, w.2)) (omega (arith, w.3)) ∙ ap₂ (λ y z. one_if (eqb (suc s) (y + z))) a k ∙ sym (old.ends x s w.2 w.3),
       )
 
   gap_cell : (rem u ≡ 0) × (end u ≡ 0)
@@ -165,19 +165,19 @@ module _ (m n : ℕ → ℕ) (R R' : ℕ → List ℕ) (c j u v : ℕ) (used rem
         old.ends u u lo hi ∙ bit_ne (suc u) (start m u + m u) (λ e. omega (arith, f.free)),
       )
 
-  used_now : (s : ℕ) → used' s ≡ bit (ltb 0 (load n s + n s))
+  used_now : (s : ℕ) → used' s ≡ one_if (ltb 0 (load n s + n s))
   used_now = used_is n R' used' rem' end' new
 
-  used_then : (s : ℕ) → used s ≡ bit (ltb 0 (load m s + m s))
+  used_then : (s : ℕ) → used s ≡ one_if (ltb 0 (load m s + m s))
   used_then = used_is m R used rem end old
 
   used_cell : (s : ℕ) → s ≢ u → used' s ≡ used s
   used_cell s ne =
       ⊎_elim
-      (λ (l : s < c). used_now s ∙ ap₂ (λ a b. bit (ltb 0 (a + b))) (up.before s (omega arith)) (one.other s (λ e. omega arith)) ∙ sym (used_then s))
+      (λ (l : s < c). used_now s ∙ ap₂ (λ a b. one_if (ltb 0 (a + b))) (up.before s (omega arith)) (one.other s (λ e. omega arith)) ∙ sym (used_then s))
       (λ (l : c ≤ s). ⊎_elim
       (λ (g : s < u). used_now s ∙ bit_pos (load n s + n s) (fuller s l (omega arith)) ∙ sym (used_then s ∙ bit_pos (load m s + m s) (f.used s l g)))
-      (λ (g : u ≤ s). used_now s ∙ ap₂ (λ a b. bit (ltb 0 (a + b))) (up.after s (omega arith)) (one.other s (λ e. omega (arith, f.from))) ∙ sym (used_then s))
+      (λ (g : u ≤ s). used_now s ∙ ap₂ (λ a b. one_if (ltb 0 (a + b))) (up.after s (omega arith)) (one.other s (λ e. omega (arith, f.from))) ∙ sym (used_then s))
       (cases_lt s u))
       (cases_lt s c)
     where

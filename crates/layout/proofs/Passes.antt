@@ -5,8 +5,8 @@ use Rattle.std.proofs.lemmas.List.{drop_more, drop_all, take-append-drop, append
 use Rattle.std.proofs.ByRecursion.{All-from_get_or}
 use Rattle.std.proofs.lemmas.List.Filters.{length-filter_more}
 use Rattle.std.proofs.lemmas.Bool.{cases_lt, cases_eq, cases_order, cond-true, cond-false, eq-eqb, ne_eqb, lt-ltb, le-ltb, le-leb, lt-leb}
-use Rattle.layout.specs.Rule.{bit, quotient, Sorted, Entry, laid, at, others, runend_at, offset_at, many, many_from, occupied_at, Roomy}
-use Rattle.layout.specs.Places.{after, next_of, slot_of}
+use Rattle.layout.specs.Rule.{one_if, quotient, Sorted, Entry, laid, reading_at, others, runend_at, offset_at, many, many_from, occupied_at, Roomy}
+use Rattle.layout.specs.Places.{slot_after, next_of, slot_of}
 use Rattle.layout.proofs.Splits.{quotient_mono, upper}
 use Rattle.layout.proofs.Bridge.{after_mono, after_append, after_more, at_skip, at_under, late}
 use Rattle.layout.proofs.Bounds.{rises}
@@ -38,36 +38,36 @@ advance_none full f h k = h k ∙ sym (cond-false (ltb k 0) (full k) 0 (le-ltb k
 
 module _ (r : ℕ) (ps : List ℕ) where
   module _ {X : Type 0} (f : ℕ → List Entry → X) (d : X) where
-    rest : (i k : ℕ) → i < length ps → next_of r ps i ≤ k → at f d (laid r 0 ps) k ≡ at f d (laid r (next_of r ps i) (get_or ps i 0 ∷ drop (i + 1) ps)) k
+    rest : (i k : ℕ) → i < length ps → next_of r ps i ≤ k → reading_at f d (laid r 0 ps) k ≡ reading_at f d (laid r (next_of r ps i) (get_or ps i 0 ∷ drop (i + 1) ps)) k
     rest i k l g =
-        ap (λ xs. at f d (laid r 0 xs) k) (sym (take-append-drop i ps)) ∙ at_skip r f d 0 (take i ps) (drop i ps) k g
-        ∙ ap (λ xs. at f d (laid r (next_of r ps i) xs) k) (drop_more ps i 0 l)
+        ap (λ xs. reading_at f d (laid r 0 xs) k) (sym (take-append-drop i ps)) ∙ at_skip r f d 0 (take i ps) (drop i ps) k g
+        ∙ ap (λ xs. reading_at f d (laid r (next_of r ps i) xs) k) (drop_more ps i 0 l)
 
-    pub at_slot : (i : ℕ) → i < length ps → at f d (laid r 0 ps) (slot_of r ps i) ≡ f (get_or ps i 0) (laid r (suc (slot_of r ps i)) (drop (i + 1) ps))
-    unfolding at laid
+    pub at_slot : (i : ℕ) → i < length ps → reading_at f d (laid r 0 ps) (slot_of r ps i) ≡ f (get_or ps i 0) (laid r (suc (slot_of r ps i)) (drop (i + 1) ps))
+    unfolding reading_at laid
     at_slot i l = rest i (slot_of r ps i) l (omega arith) ∙ cond-true (eqb (slot_of r ps i) (slot_of r ps i)) _ _ (eq-eqb (slot_of r ps i) (slot_of r ps i) refl)
 
-    pub at_gap : (i k : ℕ) → i < length ps → next_of r ps i ≤ k → k < slot_of r ps i → at f d (laid r 0 ps) k ≡ d
-    unfolding at laid
+    pub at_gap : (i k : ℕ) → i < length ps → next_of r ps i ≤ k → k < slot_of r ps i → reading_at f d (laid r 0 ps) k ≡ d
+    unfolding reading_at laid
     at_gap i k l g h =
         rest i k l g ∙ cond-false (eqb k (slot_of r ps i)) _ _ (ne_eqb k (slot_of r ps i) (λ e. omega arith)) ∙ at_under r f d (suc (slot_of r ps i)) (drop (i + 1) ps) k (omega arith)
 
-    pub at_end : (k : ℕ) → after r 0 ps ≤ k → at f d (laid r 0 ps) k ≡ d
-    unfolding at laid
-    at_end k g = ap (λ xs. at f d (laid r 0 xs) k) (sym (append-nil ps)) ∙ at_skip r f d 0 ps [] k g
+    pub at_end : (k : ℕ) → slot_after r 0 ps ≤ k → reading_at f d (laid r 0 ps) k ≡ d
+    unfolding reading_at laid
+    at_end k g = ap (λ xs. reading_at f d (laid r 0 xs) k) (sym (append-nil ps)) ∙ at_skip r f d 0 ps [] k g
 
   -- the i-th ends its run if it is the last or the next has another quotient
   pub ends_last : (i : ℕ) → i < length ps → length ps ≤ i + 1 → runend_at r (laid r 0 ps) (slot_of r ps i) ≡ 1
   unfolding others laid
   ends_last i l g =
-      at_slot (λ p later. bit (others r (quotient r p) later)) 0 i l
-      ∙ ap (λ xs. bit (others r (quotient r (get_or ps i 0)) (laid r (suc (slot_of r ps i)) xs))) (drop_all (i + 1) ps g)
+      at_slot (λ p later. one_if (others r (quotient r p) later)) 0 i l
+      ∙ ap (λ xs. one_if (others r (quotient r (get_or ps i 0)) (laid r (suc (slot_of r ps i)) xs))) (drop_all (i + 1) ps g)
 
-  pub ends_next : (i : ℕ) → i + 1 < length ps → runend_at r (laid r 0 ps) (slot_of r ps i) ≡ bit (not (eqb (quotient r (get_or ps (i + 1) 0)) (quotient r (get_or ps i 0))))
+  pub ends_next : (i : ℕ) → i + 1 < length ps → runend_at r (laid r 0 ps) (slot_of r ps i) ≡ one_if (not (eqb (quotient r (get_or ps (i + 1) 0)) (quotient r (get_or ps i 0))))
   unfolding others laid
   ends_next i l =
-      at_slot (λ p later. bit (others r (quotient r p) later)) 0 i (omega arith)
-      ∙ ap (λ xs. bit (others r (quotient r (get_or ps i 0)) (laid r (suc (slot_of r ps i)) xs))) (drop_more ps (i + 1) 0 l)
+      at_slot (λ p later. one_if (others r (quotient r p) later)) 0 i (omega arith)
+      ∙ ap (λ xs. one_if (others r (quotient r (get_or ps i 0)) (laid r (suc (slot_of r ps i)) xs))) (drop_more ps (i + 1) 0 l)
 
   -- its quotient is occupied
   pub occupied_more : (i : ℕ) → i < length ps → (k : ℕ) → occupied_at r (take (i + 1) ps) k ≡ cond (eqb k (quotient r (get_or ps i 0))) 1 (occupied_at r (take i ps) k)
@@ -76,12 +76,12 @@ module _ (r : ℕ) (ps : List ℕ) where
       let more = length-filter_more (λ p. eqb (quotient r p) k) ps i 0 l in
       ⊎_elim
       (λ (e : k ≡ c).
-      let one : bit (eqb c k) ≡ 1 = cond-true (eqb c k) 1 0 (eq-eqb c k (sym e)) in
+      let one : one_if (eqb c k) ≡ 1 = cond-true (eqb c k) 1 0 (eq-eqb c k (sym e)) in
       cond-true (ltb 0 (many r (take (i + 1) ps) k)) 1 0 (lt-ltb 0 (many r (take (i + 1) ps) k) (omega (arith, more)))
       ∙ sym (cond-true (eqb k c) 1 (occupied_at r (take i ps) k) (eq-eqb k c e)))
       (λ (e : k ≢ c).
-      let none : bit (eqb c k) ≡ 0 = cond-false (eqb c k) 1 0 (ne_eqb c k (λ z. e (sym z))) in
-      ap (λ n. bit (ltb 0 n)) (omega (arith, more)) ∙ sym (cond-false (eqb k c) 1 (occupied_at r (take i ps) k) (ne_eqb k c e)))
+      let none : one_if (eqb c k) ≡ 0 = cond-false (eqb c k) 1 0 (ne_eqb c k (λ z. e (sym z))) in
+      ap (λ n. one_if (ltb 0 n)) (omega (arith, more)) ∙ sym (cond-false (eqb k c) 1 (occupied_at r (take i ps) k) (ne_eqb k c e)))
       (cases_eq k c)
 
   -- the offset at x, where the first i are those with a quotient below x
@@ -117,9 +117,9 @@ quotients_below slots r ps s room = none ps ((room_load_law slots r ps s).0 room
         (cases_lt (quotient r q) slots)
 
 -- the slot after some of them is not past the slot after all
-pub next_below : (r : ℕ) (ps : List ℕ) (i : ℕ) → next_of r ps i ≤ after r 0 ps
+pub next_below : (r : ℕ) (ps : List ℕ) (i : ℕ) → next_of r ps i ≤ slot_after r 0 ps
 next_below r ps i =
-    let e = ap (after r 0) (take-append-drop i ps) in
+    let e = ap (slot_after r 0) (take-append-drop i ps) in
     omega (arith, after_append r 0 (take i ps) (drop i ps), after_mono r (next_of r ps i) (drop i ps))
 
 -- with room for all, the slot of each and its quotient lie below the slots

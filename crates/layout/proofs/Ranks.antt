@@ -1,14 +1,14 @@
 -- RANK and SELECT over the ends of the runs.
 use Rattle.std.proofs.Common.{◌≡◌, ℕ, zero, suc, ◌+◌, ◌-◌, ◌<◌, ◌≤◌, eqb, ltb, ◌≢◌, sym, refl, ap, ◌∙◌, ⊎_elim, arith}
 use Rattle.std.proofs.lemmas.Bool.{cases_lt, cases_eq, cond-true, cond-false, eq-eqb, ne_eqb, lt-ltb, le-ltb}
-use Rattle.layout.specs.Load.{load, start, busy, tally, rank, Select, Ends, RankLaw, SelectLaw, BlockLaw}
-use Rattle.layout.specs.Rule.{bit}
+use Rattle.layout.specs.Load.{load, start, busy, tally, rank, Select, EndsRuns, RankLaw, SelectLaw, BlockLaw}
+use Rattle.layout.specs.Rule.{one_if}
 use Rattle.layout.proofs.Loads.{load_step, load_none, start_mono}
 
-pub bit_eq : (a b : ℕ) → a ≡ b → bit (eqb a b) ≡ 1
+pub bit_eq : (a b : ℕ) → a ≡ b → one_if (eqb a b) ≡ 1
 bit_eq a b e = cond-true (eqb a b) 1 0 (eq-eqb a b e)
 
-pub bit_ne : (a b : ℕ) → a ≢ b → bit (eqb a b) ≡ 0
+pub bit_ne : (a b : ℕ) → a ≢ b → one_if (eqb a b) ≡ 0
 bit_ne a b e = cond-false (eqb a b) 1 0 (ne_eqb a b e)
 
 pub tally_step : (f : ℕ → ℕ) (n : ℕ) → tally f (suc n) ≡ tally f n + f n
@@ -30,7 +30,7 @@ tally_zeros f a (suc n) h =
     let z : a + suc n ≡ suc (a + n) = omega arith in
     omega (arith, ap (tally f) z, tally_step f (a + n), tally_zeros f a n (λ s l g. h s l (omega arith)), h (a + n) (omega arith) (omega arith))
 
-module _ (m end : ℕ → ℕ) (ends : Ends m end) where
+module _ (m end : ℕ → ℕ) (ends : EndsRuns m end) where
   run_end : (x : ℕ) → 0 < m x → start m (suc x) ≡ start m x + m x
   run_end x l = omega (arith, load_step m x)
 

@@ -4,7 +4,7 @@ use Rattle.std.specs.List.{AllByRecursion as Every}
 use Rattle.std.proofs.lemmas.List.{drop_all}
 use Rattle.std.proofs.lemmas.Bool.{cases_lt, cond-true, cond-false, eq-eqb, ne_eqb}
 use Rattle.layout.specs.Load.{start}
-use Rattle.layout.specs.Rule.{quotient, remainder, Sorted, laid, remainder_at, runend_at, run, many, occupied_at, Roomy}
+use Rattle.layout.specs.Rule.{quotient, remainder, Sorted, laid, remainder_at, runend_at, quotient_run, many, occupied_at, Roomy}
 use Rattle.layout.specs.Runs.{remainders, InRuns}
 use Rattle.layout.specs.Laws.{run_from, read_from, ReadLaw}
 use Rattle.layout.proofs.Loads.{load_step, load_none}
@@ -60,14 +60,14 @@ module _ (slots r bound : ℕ) (ps : List ℕ) (s : Sorted ps) (room : Roomy slo
       let got : run_from rem end slots (max c t) ≡ remainders r ps c =
       ap (run_from rem end slots) z0 ∙ run_read (many r ps) (remainders r ps) _ rem end (layout_law r ps s) c slots 0 l (omega arith) in
       cond-true (eqb (occ c) 1) _ _ (eq-eqb (occ c) 1 (bit_pos (many r ps c) l))
-      ∙ ap₂ (λ (a b : List ℕ). a ++ b) (ap (map (λ x. c * 2 ^ r + x)) got ∙ with_quotient r c (run r ps c) (run_all r ps c))
+      ∙ ap₂ (λ (a b : List ℕ). a ++ b) (ap (map (λ x. c * 2 ^ r + x)) got ∙ with_quotient r c (quotient_run r ps c) (run_all r ps c))
       (read_is n (suc c) (max c t + length (run_from rem end slots (max c t))) (omega arith)
       (omega (arith, ap length got, (layout_law r ps s).sizes c, load_step (many r ps) c, z)))
       ∙ sym (upper_step r ps c s))
       (λ (l : many r ps c ≤ 0).
       cond-false (eqb (occ c) 1) _ _ (ne_eqb (occ c) 1 (λ w. omega (arith, w, bit_zero (many r ps c) (omega arith))))
       ∙ read_is n (suc c) t (omega arith) (omega (arith, z, load_step (many r ps) c))
-      ∙ sym (upper_step r ps c s ∙ ap (λ l. l ++ upper r ps (suc c)) (empty (run r ps c) l)))
+      ∙ sym (upper_step r ps c s ∙ ap (λ l. l ++ upper r ps (suc c)) (empty (quotient_run r ps c) l)))
       (cases_lt 0 (many r ps c))
 
 pub read_law : ReadLaw

@@ -4,7 +4,7 @@ use lib.Pow.{shr_mono}
 use Rattle.std.specs.List.{AllByRecursion as Every}
 use Rattle.std.proofs.lemmas.Bool.{cases_lt, cases_order, eq-eqb, ne_eqb, lt-ltb, le-ltb, le-leb, lt-leb, eqb-true, leb-true, ltb-true}
 use Rattle.std.proofs.ByRecursion.{kept_by_passes}
-use Rattle.layout.specs.Rule.{quotient, Sorted, run}
+use Rattle.layout.specs.Rule.{quotient, Sorted, quotient_run}
 
 pub quotient_mono : (r p q : ℕ) → p ≤ q → quotient r p ≤ quotient r q
 unfolding quotient
@@ -36,7 +36,7 @@ module _ (r : ℕ) where
   abbrev pub upper : List ℕ → ℕ → List ℕ
   upper ps x = filter (λ p. leb x (quotient r p)) ps
 
-  pub lower_step : (ps : List ℕ) (x : ℕ) → Sorted ps → lower ps (suc x) ≡ lower ps x ++ run r ps x
+  pub lower_step : (ps : List ℕ) (x : ℕ) → Sorted ps → lower ps (suc x) ≡ lower ps x ++ quotient_run r ps x
   lower_step ps x s =
       cut (λ p. ltb (quotient r p) (suc x)) (λ p. ltb (quotient r p) x) (λ p. eqb (quotient r p) x)
       (λ p. ⊎_elim
@@ -47,7 +47,7 @@ module _ (r : ℕ) where
       (cases_order (quotient r p) x))
       (λ p q e l. le-ltb (quotient r q) x (omega (arith, eqb-true (quotient r p) x e, quotient_mono r p q l))) ps s
 
-  pub upper_step : (ps : List ℕ) (x : ℕ) → Sorted ps → upper ps x ≡ run r ps x ++ upper ps (suc x)
+  pub upper_step : (ps : List ℕ) (x : ℕ) → Sorted ps → upper ps x ≡ quotient_run r ps x ++ upper ps (suc x)
   upper_step ps x s =
       cut (λ p. leb x (quotient r p)) (λ p. eqb (quotient r p) x) (λ p. leb (suc x) (quotient r p))
       (λ p. ⊎_elim
@@ -75,8 +75,8 @@ module _ (r : ℕ) where
   weaken P Q h [] a = tt
   weaken P Q h (p ∷ ps) (a, b) = (h p a, weaken P Q h ps b)
 
-  pub run_all : (ps : List ℕ) (x : ℕ) → Every (λ p. quotient r p ≡ x) (run r ps x)
-  run_all ps x = weaken _ _ (λ p e. eqb-true (quotient r p) x e) (run r ps x) (kept_by_passes (λ p. eqb (quotient r p) x) ps)
+  pub run_all : (ps : List ℕ) (x : ℕ) → Every (λ p. quotient r p ≡ x) (quotient_run r ps x)
+  run_all ps x = weaken _ _ (λ p e. eqb-true (quotient r p) x e) (quotient_run r ps x) (kept_by_passes (λ p. eqb (quotient r p) x) ps)
 
   pub upper_all : (ps : List ℕ) (x : ℕ) → Every (λ p. x ≤ quotient r p) (upper ps x)
   upper_all ps x = weaken _ _ (λ p e. leb-true x (quotient r p) e) (upper ps x) (kept_by_passes (λ p. leb x (quotient r p)) ps)

@@ -1,14 +1,14 @@
 -- Ends of runs as places to stop at.
 use Rattle.std.proofs.Common.{◌≡◌, ℕ, zero, suc, ◌+◌, ◌-◌, ◌<◌, ◌≤◌, max, ltb, ◌≢◌, ◌⊎◌, sym, ap, ◌∙◌, subst, inl, inr, ⊎_elim, arith}
 use Rattle.std.proofs.lemmas.Bool.{cases_lt, cases_eq}
-use Rattle.layout.specs.Load.{load, start, busy, tally, rank, Select, Ends, BalanceLaw, BeforeLaw, StopLaw, BlockStopLaw}
-use Rattle.layout.specs.Rule.{bit}
+use Rattle.layout.specs.Load.{load, start, busy, tally, rank, Select, EndsRuns, BalanceLaw, BeforeLaw, StopLaw, BlockStopLaw}
+use Rattle.layout.specs.Rule.{one_if}
 use Rattle.layout.proofs.Loads.{load_step, start_mono, cell_of}
 use Rattle.layout.proofs.Ranks.{bit_eq, tally_step, tally_mono, rank_is, selected}
 use Rattle.layout.proofs.Moves.{bit_pos, bit_zero}
 use Rattle.layout.proofs.Rooms.{select_one_law}
 
-module _ (m end : ℕ → ℕ) (ends : Ends m end) where
+module _ (m end : ℕ → ℕ) (ends : EndsRuns m end) where
   before : (c : ℕ) → 0 < load m c → end (start m c - 1) ≡ 1
   before c l =
       let s : ℕ = start m c - 1 in
@@ -17,7 +17,7 @@ module _ (m end : ℕ → ℕ) (ends : Ends m end) where
       let under : y < c = ⊎_elim (λ (h : y < c). h) (λ (h : c ≤ y). absurd (omega (arith, w.2, start_mono m c y h))) (cases_lt y c) in
       ends y s w.2 w.3 ∙ bit_eq (suc s) (start m y + m y) (omega (arith, w.2, w.3, load_step m y, start_mono m (suc y) c under))
 
-  busy_step : (x : ℕ) → rank (busy m) x ≡ tally (busy m) x + bit (ltb 0 (m x))
+  busy_step : (x : ℕ) → rank (busy m) x ≡ tally (busy m) x + one_if (ltb 0 (m x))
   busy_step x = tally_step (busy m) x
 
   balance : (x : ℕ) → (load m x ≡ 0 → tally end x ≡ tally (busy m) x) × (0 < load m x → tally end x < tally (busy m) x)

@@ -1,7 +1,8 @@
 -- The words of a filter: bit by bit what the rule says of each slot. A block is r + 3 words for 64 slots.
 use Rattle.std.specs.Prelude.{ℕ, ◌+◌, ◌-◌, ◌*◌, ◌/◌, ◌%◌, min, cond, List, map, ◌==◌}
 use Rattle.std.specs.List.{range_with_len}
-use Rattle.words.specs.Bits.{bits, bit_at}
+use Rattle.std.specs.Int.{bit_at}
+use Rattle.words.specs.Bits.{bits}
 use Rattle.layout.specs.Rule.{layout, occupied_at, runend_at, offset_at, remainder_at}
 
 -- bit n of the row of remainders of block b: the row has r bits for each slot, so it is bit n % r of the remainder in the n / r-th slot of the block

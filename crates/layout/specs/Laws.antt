@@ -3,7 +3,7 @@ use Rattle.std.specs.Prelude.{◌≡◌, ℕ, zero, suc, ◌+◌, ◌-◌, ◌*�
 use Rattle.std.specs.List.{AllByRecursion as Every}
 use Rattle.layout.specs.Moves.{Fit}
 use Rattle.layout.specs.Load.{load, tally, rank, Select, FirstFree, FirstIdle}
-use Rattle.layout.specs.Rule.{bit, quotient, remainder, Sorted, insert, remove, sorted, laid, used_at, remainder_at, runend_at, offset_at, many, many_from, occupied_at, Crowded, Roomy}
+use Rattle.layout.specs.Rule.{one_if, quotient, remainder, Sorted, with_one, without_one, sorted, laid, used_at, remainder_at, runend_at, offset_at, many, many_from, occupied_at, Crowded, Roomy}
 use Rattle.layout.specs.Runs.{remainders}
 
 -- ---- room
@@ -21,12 +21,13 @@ RoomLoadLaw = (slots r : ℕ) (ps : List ℕ) → Sorted ps
 -- one fingerprint more crowds no quotient just where a slot from its quotient on is free
 abbrev pub InsertRoomLaw : Type 0
 InsertRoomLaw = (slots r p : ℕ) (ps : List ℕ) → Sorted ps → Roomy slots r ps
-    → (Roomy slots r (insert p ps) → (u : ℕ) × FirstFree (many r ps) (quotient r p) u × (u < slots))
-    × ((u : ℕ) → FirstFree (many r ps) (quotient r p) u → u < slots → Roomy slots r (insert p ps))
+    → (Roomy slots r (with_one p ps)
+    → (u : ℕ) × FirstFree (many r ps) (quotient r p) u × (u < slots))
+    × ((u : ℕ) → FirstFree (many r ps) (quotient r p) u → u < slots → Roomy slots r (with_one p ps))
 
 -- one fingerprint less crowds no quotient where none was
 abbrev pub RemoveRoomLaw : Type 0
-RemoveRoomLaw = (slots r p : ℕ) (ps : List ℕ) → Roomy slots r ps → Roomy slots r (remove p ps)
+RemoveRoomLaw = (slots r p : ℕ) (ps : List ℕ) → Roomy slots r ps → Roomy slots r (without_one p ps)
 
 -- the order of the fingerprints does not matter to this
 abbrev pub AnyOrderLaw : Type 0
@@ -40,7 +41,7 @@ BoundLaw = (slots r bound : ℕ) (ps : List ℕ) → Every (λ p. quotient r p <
 
 -- a slot is used just where entries wait at it or come there
 abbrev pub UsedLaw : Type 0
-UsedLaw = (r : ℕ) (ps : List ℕ) → Sorted ps → (s : ℕ) → used_at (laid r 0 ps) s ≡ bit (nat_lt 0 (offset_at r (laid r 0 ps) s + many r ps s))
+UsedLaw = (r : ℕ) (ps : List ℕ) → Sorted ps → (s : ℕ) → used_at (laid r 0 ps) s ≡ one_if (nat_lt 0 (offset_at r (laid r 0 ps) s + many r ps s))
 
 -- from slot x on, as many slots are used as entries wait at x and come there, at least
 abbrev pub UsedJumpLaw : Type 0
@@ -96,20 +97,20 @@ ReadLaw = (slots r bound : ℕ) (ps : List ℕ) → Sorted ps → Roomy slots r 
 -- ---- the fingerprints as a bag
 
 -- how often p is in a list
-abbrev pub count : ℕ → List ℕ → ℕ
-count p ps = count_by (λ q. nat_eq q p) ps
+abbrev pub copies_of : ℕ → List ℕ → ℕ
+copies_of p ps = count_by (λ q. nat_eq q p) ps
 
 -- sorting keeps each fingerprint as often as it was; an insertion adds one, and a removal takes one away
 abbrev pub CountLaw : Type 0
 CountLaw = (p q : ℕ) (ps : List ℕ)
-    → (count q (sorted ps) ≡ count q ps)
-    × (Sorted ps → count q (insert p ps) ≡ count q ps + bit (p == q))
-    × (count q (remove p ps) ≡ count q ps - bit (p == q))
+    → (copies_of q (sorted ps) ≡ copies_of q ps)
+    × (Sorted ps → copies_of q (with_one p ps) ≡ copies_of q ps + one_if (p == q))
+    × (copies_of q (without_one p ps) ≡ copies_of q ps - one_if (p == q))
     × (Sorted ps → sorted ps ≡ ps)
 
 -- a fingerprint is there as often as its remainder is among those of its quotient
 abbrev pub FindLaw : Type 0
-FindLaw = (r p : ℕ) (ps : List ℕ) → count p ps ≡ count (remainder r p) (remainders r ps (quotient r p))
+FindLaw = (r p : ℕ) (ps : List ℕ) → copies_of p ps ≡ copies_of (remainder r p) (remainders r ps (quotient r p))
 
 -- u is the first free slot from c on, as the slots show it
 abbrev pub FreeLaw : Type 0
@@ -119,12 +120,12 @@ FreeLaw = (r : ℕ) (ps : List ℕ) → Sorted ps → (c u : ℕ) → c ≤ u �
 -- a quotient whose only entry is removed is no longer occupied, and all others stay as they were
 abbrev pub RemoveOccupiedLaw : Type 0
 RemoveOccupiedLaw = (r p : ℕ) (ps : List ℕ) (j : ℕ) → Sorted ps → j < many r ps (quotient r p) → slice_index (remainders r ps (quotient r p)) j ≡ remainder r p
-    → (x : ℕ) → occupied_at r (remove p ps) x ≡ cond (x == quotient r p) (bit (nat_lt 1 (many r ps x))) (occupied_at r ps x)
+    → (x : ℕ) → occupied_at r (without_one p ps) x ≡ cond (x == quotient r p) (one_if (nat_lt 1 (many r ps x))) (occupied_at r ps x)
 
 -- ---- bounds
 
 -- with room for all, all is 0 past the slots; the last slot of a run and what waits have room
-pub record Within (slots r : ℕ) (ps : List ℕ) : Type 0 where
+pub record WithinSlots (slots r : ℕ) (ps : List ℕ) : Type 0 where
   pub size : length ps ≤ slots
   pub used : (s : ℕ) → slots ≤ s → used_at (laid r 0 ps) s ≡ 0
   pub rem : (s : ℕ) → slots ≤ s → remainder_at r (laid r 0 ps) s ≡ 0
@@ -136,7 +137,7 @@ pub record Within (slots r : ℕ) (ps : List ℕ) : Type 0 where
 
 -- where no quotient is crowded, nothing lies past the slots
 abbrev pub WithinLaw : Type 0
-WithinLaw = (slots r : ℕ) (ps : List ℕ) → Sorted ps → Roomy slots r ps → Within slots r ps
+WithinLaw = (slots r : ℕ) (ps : List ℕ) → Sorted ps → Roomy slots r ps → WithinSlots slots r ps
 
 -- no fingerprints: all is 0
 abbrev pub EmptyLaw : Type 0
@@ -156,7 +157,7 @@ FitLaw = (r : ℕ) (ps : List ℕ) → Sorted ps → (c : ℕ) → Sorted (remai
 -- one fingerprint more, or one less, of a list in any order is one more, or one less, of the sorted list; what was put in and is taken out again leaves the list as it was
 abbrev pub BagLaw : Type 0
 BagLaw = (p : ℕ) (ps : List ℕ)
-    → (sorted (p ∷ ps) ≡ insert p (sorted ps)) × (sorted (remove p ps) ≡ remove p (sorted ps)) × (remove p (insert p ps) ≡ ps)
+    → (sorted (p ∷ ps) ≡ with_one p (sorted ps)) × (sorted (without_one p ps) ≡ without_one p (sorted ps)) × (without_one p (with_one p ps) ≡ ps)
 
 -- ---- what the bits alone tell of a slot
 

@@ -1,6 +1,6 @@
 -- A queue in which each slot serves one entry: m x entries come at slot x.
 use Rattle.std.specs.Prelude.{◌≡◌, ℕ, zero, suc, ◌+◌, ◌-◌, ◌<◌, ◌≤◌, max, ◌≢◌, ◌⊎◌, ◌==◌, nat_lt}
-use Rattle.layout.specs.Rule.{bit}
+use Rattle.layout.specs.Rule.{one_if}
 
 -- how many that came below slot x are still waiting there
 unfoldable pub load : (ℕ → ℕ) → ℕ → ℕ
@@ -13,7 +13,7 @@ start m x = x + load m x
 
 -- 1 where some entry comes
 abbrev pub busy : (ℕ → ℕ) → ℕ → ℕ
-busy m x = bit (nat_lt 0 (m x))
+busy m x = one_if (nat_lt 0 (m x))
 
 -- the ones of a row of bits at places below n
 unfoldable pub tally : (ℕ → ℕ) → ℕ → ℕ
@@ -75,12 +75,12 @@ abbrev pub Uncrowded : ℕ → (ℕ → ℕ) → Type 0
 Uncrowded slots from = (c : ℕ) → from c ≤ slots - c
 
 -- a queue of that many slots serves all
-abbrev pub Served : ℕ → (ℕ → ℕ) → (ℕ → ℕ) → Type 0
-Served slots m from = (load m slots ≡ 0) × (from slots ≡ 0)
+abbrev pub ServesAll : ℕ → (ℕ → ℕ) → (ℕ → ℕ) → Type 0
+ServesAll slots m from = (load m slots ≡ 0) × (from slots ≡ 0)
 
 -- no place is crowded just where the slots serve all
 abbrev pub CrowdingLaw : Type 0
-CrowdingLaw = (slots : ℕ) (m from : ℕ → ℕ) → Tails m from → (Uncrowded slots from → Served slots m from) × (Served slots m from → Uncrowded slots from)
+CrowdingLaw = (slots : ℕ) (m from : ℕ → ℕ) → Tails m from → (Uncrowded slots from → ServesAll slots m from) × (ServesAll slots m from → Uncrowded slots from)
 
 -- one entry more at c: it crowds some place just where no slot from c on is free
 abbrev pub InsertCrowdingLaw : Type 0
@@ -89,20 +89,20 @@ InsertCrowdingLaw = (slots : ℕ) (m n from more : ℕ → ℕ) (c : ℕ) → On
     × (((x : ℕ) → c ≤ x → x < slots → 0 < load m x + m x) → Uncrowded slots more → ⊥)
 
 -- the ends of the runs: of the slots from start m x to start m (x + 1), the one that holds the last entry of x
-abbrev pub Ends : (ℕ → ℕ) → (ℕ → ℕ) → Type 0
-Ends m end = (x s : ℕ) → start m x ≤ s → s < start m (suc x) → end s ≡ bit (suc s == start m x + m x)
+abbrev pub EndsRuns : (ℕ → ℕ) → (ℕ → ℕ) → Type 0
+EndsRuns m end = (x s : ℕ) → start m x ≤ s → s < start m (suc x) → end s ≡ one_if (suc s == start m x + m x)
 
 -- the ends below the start of x are as many as the busy places below x
 abbrev pub RankLaw : Type 0
-RankLaw = (m end : ℕ → ℕ) → Ends m end → (x : ℕ) → tally end (start m x) ≡ tally (busy m) x
+RankLaw = (m end : ℕ → ℕ) → EndsRuns m end → (x : ℕ) → tally end (start m x) ≡ tally (busy m) x
 
 -- the last slot of the run of c is the place of the end with the rank of c
 abbrev pub SelectLaw : Type 0
-SelectLaw = (m end : ℕ → ℕ) → Ends m end → (c : ℕ) → 0 < m c → Select end (rank (busy m) c) ((start m c + m c) - 1)
+SelectLaw = (m end : ℕ → ℕ) → EndsRuns m end → (c : ℕ) → 0 < m c → Select end (rank (busy m) c) ((start m c + m c) - 1)
 
 -- and from the start of x on, it is the end with the number of the busy places from x to c
 abbrev pub BlockLaw : Type 0
-BlockLaw = (m end : ℕ → ℕ) → Ends m end → (x c : ℕ) → x ≤ c → 0 < m c
+BlockLaw = (m end : ℕ → ℕ) → EndsRuns m end → (x c : ℕ) → x ≤ c → 0 < m c
     → (start m x ≤ (start m c + m c) - 1) × (tally end (start m c + m c) ≡ tally end (start m x) + (rank (busy m) c - tally (busy m) x))
 
 -- jumps
@@ -112,23 +112,23 @@ JumpLaw = (m : ℕ → ℕ) (x y : ℕ) → x ≤ y
 
 -- The busy places below x less the ends below x: nothing waits at x just where they are as many.
 abbrev pub BalanceLaw : Type 0
-BalanceLaw = (m end : ℕ → ℕ) → Ends m end → (x : ℕ)
+BalanceLaw = (m end : ℕ → ℕ) → EndsRuns m end → (x : ℕ)
     → (load m x ≡ 0 → tally end x ≡ tally (busy m) x) × (0 < load m x → tally end x < tally (busy m) x)
 
 -- where something waits at c, the slot before its start is the end of a run
 abbrev pub BeforeLaw : Type 0
-BeforeLaw = (m end : ℕ → ℕ) → Ends m end → (c : ℕ) → 0 < load m c → end (start m c - 1) ≡ 1
+BeforeLaw = (m end : ℕ → ℕ) → EndsRuns m end → (c : ℕ) → 0 < load m c → end (start m c - 1) ≡ 1
 
 -- The end with the rank of x, whether something comes at x or not: it lies below x, and slot x is free, or the slots from x up to it are used
 -- (by the jumps above), and the next slot to look at is the one after it.
 abbrev pub StopLaw : Type 0
-StopLaw = (m end : ℕ → ℕ) → Ends m end → (x : ℕ)
+StopLaw = (m end : ℕ → ℕ) → EndsRuns m end → (x : ℕ)
     → (rank (busy m) x ≡ 0 → load m x + m x ≡ 0)
     × ((e : ℕ) → Select end (rank (busy m) x) e → ((e < x) × (load m x + m x ≡ 0)) ⊎ ((x ≤ e) × (suc e ≡ start m x + m x)))
 
 -- the same, counted from a place x at or below c
 abbrev pub BlockStopLaw : Type 0
-BlockStopLaw = (m end : ℕ → ℕ) → Ends m end → (x c : ℕ) → x ≤ c
+BlockStopLaw = (m end : ℕ → ℕ) → EndsRuns m end → (x c : ℕ) → x ≤ c
     → (rank (busy m) c ≡ tally (busy m) x → (start m c + m c ≡ max c (start m x)))
     × ((e : ℕ) → end e ≡ 1 → rank end e ≡ tally end (start m x) + (rank (busy m) c - tally (busy m) x)
     → ((e < c) × (load m c + m c ≡ 0)) ⊎ ((c ≤ e) × (suc e ≡ start m c + m c)))

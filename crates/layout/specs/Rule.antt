@@ -17,18 +17,18 @@ Sorted [] = Unit {0}
 Sorted (p ∷ ps) = Every (λ q. p ≤ q) ps × Sorted ps
 
 -- p among sorted fingerprints, before the first that is not smaller
-unfoldable pub insert : ℕ → List ℕ → List ℕ
-insert p [] = p ∷ []
-insert p (q ∷ qs) = cond (nat_le p q) (p ∷ q ∷ qs) (q ∷ insert p qs)
+unfoldable pub with_one : ℕ → List ℕ → List ℕ
+with_one p [] = p ∷ []
+with_one p (q ∷ qs) = cond (nat_le p q) (p ∷ q ∷ qs) (q ∷ with_one p qs)
 
 unfoldable pub sorted : List ℕ → List ℕ
 sorted [] = []
-sorted (p ∷ ps) = insert p (sorted ps)
+sorted (p ∷ ps) = with_one p (sorted ps)
 
 -- without the first p
-unfoldable pub remove : ℕ → List ℕ → List ℕ
-remove p [] = []
-remove p (q ∷ qs) = cond (p == q) qs (q ∷ remove p qs)
+unfoldable pub without_one : ℕ → List ℕ → List ℕ
+without_one p [] = []
+without_one p (q ∷ qs) = cond (p == q) qs (q ∷ without_one p qs)
 
 -- ---- the rule
 
@@ -50,21 +50,21 @@ layout r ps = laid r 0 (sorted ps)
 
 -- ---- what each slot shows
 
-abbrev pub bit : Bool → ℕ
-bit b = cond b 1 0
+abbrev pub one_if : Bool → ℕ
+one_if b = cond b 1 0
 
 -- what f says of the fingerprint in slot s and of the entries after it, or d where slot s is free
-unfoldable pub at : {X : Type 0} → (ℕ → List Entry → X) → X → List Entry → ℕ → X
-at f d [] s = d
-at f d (e ∷ es) s = cond (s == e.slot) (f e.fingerprint es) (at f d es s)
+unfoldable pub reading_at : {X : Type 0} → (ℕ → List Entry → X) → X → List Entry → ℕ → X
+reading_at f d [] s = d
+reading_at f d (e ∷ es) s = cond (s == e.slot) (f e.fingerprint es) (reading_at f d es s)
 
 -- 1 if an entry lies in slot s
 abbrev pub used_at : List Entry → ℕ → ℕ
-used_at es s = at (λ p later. 1) 0 es s
+used_at es s = reading_at (λ p later. 1) 0 es s
 
 -- the remainder in slot s, and 0 in a free one
 abbrev pub remainder_at : ℕ → List Entry → ℕ → ℕ
-remainder_at r es s = at (λ p later. remainder r p) 0 es s
+remainder_at r es s = reading_at (λ p later. remainder r p) 0 es s
 
 -- whether the entry that comes next has another quotient than c, or there is none
 unfoldable pub others : ℕ → ℕ → List Entry → Bool
@@ -73,24 +73,24 @@ others r c (e ∷ es) = not (quotient r e.fingerprint == c)
 
 -- the runend bit: 1 if slot s holds the last entry of its quotient
 abbrev pub runend_at : ℕ → List Entry → ℕ → ℕ
-runend_at r es s = at (λ p later. bit (others r (quotient r p) later)) 0 es s
+runend_at r es s = reading_at (λ p later. one_if (others r (quotient r p) later)) 0 es s
 
 -- the offset at slot x: how many entries lie at or after slot x and have a quotient below x
 unfoldable pub offset_at : ℕ → List Entry → ℕ → ℕ
 offset_at r [] x = 0
-offset_at r (e ∷ es) x = bit (nat_le x e.slot && nat_lt (quotient r e.fingerprint) x) + offset_at r es x
+offset_at r (e ∷ es) x = one_if (nat_le x e.slot && nat_lt (quotient r e.fingerprint) x) + offset_at r es x
 
 -- the run of quotient c: its fingerprints, in their order
-abbrev pub run : ℕ → List ℕ → ℕ → List ℕ
-run r ps c = filter (λ p. nat_eq (quotient r p) c) ps
+abbrev pub quotient_run : ℕ → List ℕ → ℕ → List ℕ
+quotient_run r ps c = filter (λ p. nat_eq (quotient r p) c) ps
 
 -- how many fingerprints have quotient c
 abbrev pub many : ℕ → List ℕ → ℕ → ℕ
-many r ps c = length (run r ps c)
+many r ps c = length (quotient_run r ps c)
 
 -- the occupied bit: 1 if some fingerprint has quotient c
 abbrev pub occupied_at : ℕ → List ℕ → ℕ → ℕ
-occupied_at r ps c = bit (nat_lt 0 (many r ps c))
+occupied_at r ps c = one_if (nat_lt 0 (many r ps c))
 
 -- ---- crowding
 

@@ -3,7 +3,7 @@ use Rattle.std.specs.Prelude.{◌≡◌, ℕ, ◌-◌, ◌≤◌, List, length, 
 use Rattle.std.proofs.Common.{arith}
 use Rattle.std.proofs.lemmas.List.{length-append, length-map, length-take-le, length-replicate}
 use Rattle.tables.specs.declared.record.Record.{Record}
-use Rattle.tables.specs.Rows.{count, Apart}
+use Rattle.tables.specs.Rows.{record_count, Apart}
 use Rattle.tables.specs.Meaning.{Proper}
 use Rattle.tables.proofs.Counts.{count_held, count_free}
 use Rattle.listtable.specs.Lists.{list_capacity, places_of, list_meaning}
@@ -12,7 +12,7 @@ pub length_places : {R : Type 0} (held : ℕ) (rs : List R) → held ≤ list_ca
 unfolding places_of
 length_places held rs h = simp (length-append, length-map, length-replicate) (let t = length-take-le held rs (omega arith) in omega arith)
 
-pub count_places : {R : Type 0} (held : ℕ) (rs : List R) → held ≤ list_capacity (length rs) → count (places_of held rs) ≡ held
+pub count_places : {R : Type 0} (held : ℕ) (rs : List R) → held ≤ list_capacity (length rs) → record_count (places_of held rs) ≡ held
 unfolding places_of
 count_places {R} held rs h =
     let t = length-take-le held rs (omega arith) in

@@ -25,20 +25,20 @@ use Rattle.answers.specs.declared.fault.SheetFault.{SheetFault}
 use Rattle.answers.specs.Texts.{answer_line}
 
 -- a book as it stands, and its table itself: tables that mean the same need not be the same
-pub record Whole (K V B X : Type 0) : Type 0 where
+pub record WholeBook (K V B X : Type 0) : Type 0 where
   pub stands : Standing K V B
   pub table : X
 
 -- a lent book, by what its table and its fingerprint say of themselves
-abbrev pub whole : {X P K V B : Type 0} → (X → Meaning K V) → (X → GName) → (X → B) → (P → K → ℕ) → LentBook X P → Whole K V B X
-whole meaning lender beyond number b = record { stands = standing meaning lender beyond number b; table = b.table.now }
+abbrev pub whole_book : {X P K V B : Type 0} → (X → Meaning K V) → (X → GName) → (X → B) → (P → K → ℕ) → LentBook X P → WholeBook K V B X
+whole_book meaning lender beyond number b = record { stands = standing meaning lender beyond number b; table = b.table.now }
 
 -- what the law of a book sees of it
-abbrev pub state_at : {K V B X : Type 0} → Whole K V B X → State K V
+abbrev pub state_at : {K V B X : Type 0} → WholeBook K V B X → State K V
 state_at w = state_of w.stands.filter w.stands.table w.stands.number
 
 -- what an operation with this answer makes of the book that a line names
-pub record Operates {K V B X : Type 0} (bytes : K → List ℕ) (before after : Whole K V B X) (o : Operation K V) (a : Answer V) : Type 0 where
+pub record Operates {K V B X : Type 0} (bytes : K → List ℕ) (before after : WholeBook K V B X) (o : Operation K V) (a : Answer V) : Type 0 where
   pub done : Performs bytes before.stands after.stands o a
   -- the law of the book goes on by it
   pub law : Extends bytes (state_at before) (state_at after) (o, a)
@@ -52,22 +52,22 @@ reply_of done (Err e) = Err (Book e)
 
 -- What becomes of a line that means this: one book is asked, and nothing is written into the other, nor into its table; a line that is refused before leaves
 -- both so.
-abbrev pub Outcome : {B C X Y : Type 0} → Whole Pair ℤ B X → Whole Pair ℤ B X → Whole Sequence ℕ C Y → Whole Sequence ℕ C Y
+abbrev pub CommandDone : {B C X Y : Type 0} → WholeBook Pair ℤ B X → WholeBook Pair ℤ B X → WholeBook Sequence ℕ C Y → WholeBook Sequence ℕ C Y
     → Result Command LineFault → Result Done Refusal → Type 0
-Outcome k k' l l' (Ok (command.Kern o)) reply =
+CommandDone k k' l l' (Ok (command.Kern o)) reply =
     (a : Answer ℤ) × Operates pair_bytes k k' o a × (l' ≡ l) × (reply ≡ reply_of Kern a)
-Outcome k k' l l' (Ok (command.Ligature o)) reply =
+CommandDone k k' l l' (Ok (command.Ligature o)) reply =
     (a : Answer ℕ) × Operates sequence_bytes l l' o a × (k' ≡ k) × (reply ≡ reply_of Ligature a)
-Outcome k k' l l' (Err e) reply = (k' ≡ k) × (l' ≡ l) × (reply ≡ Err (Line e))
+CommandDone k k' l l' (Err e) reply = (k' ≡ k) × (l' ≡ l) × (reply ≡ Err (Line e))
 
 -- what a line does, and what is replied
-abbrev pub LineDone : {B C X Y : Type 0} → Whole Pair ℤ B X → Whole Pair ℤ B X → Whole Sequence ℕ C Y → Whole Sequence ℕ C Y
+abbrev pub LineDone : {B C X Y : Type 0} → WholeBook Pair ℤ B X → WholeBook Pair ℤ B X → WholeBook Sequence ℕ C Y → WholeBook Sequence ℕ C Y
     → List ℕ → Result Done Refusal → Type 0
-LineDone k k' l l' line reply = (r : Result Command LineFault) × Meant line r × Outcome k k' l l' r reply
+LineDone k k' l l' line reply = (r : Result Command LineFault) × Meant line r × CommandDone k k' l l' r reply
 
 -- The same with the reply written to the front of a buffer that was `before` and is `after`, under a line number. A short buffer is refused first, and all
 -- stays as it is.
-abbrev pub LineWritten : {B C X Y : Type 0} → Whole Pair ℤ B X → Whole Pair ℤ B X → Whole Sequence ℕ C Y → Whole Sequence ℕ C Y
+abbrev pub LineWritten : {B C X Y : Type 0} → WholeBook Pair ℤ B X → WholeBook Pair ℤ B X → WholeBook Sequence ℕ C Y → WholeBook Sequence ℕ C Y
     → ℕ → List ℕ → List ℕ → List ℕ → Result ℕ SheetFault → Type 0
 LineWritten k k' l l' number line before after (Ok n) =
     (32 ≤ length before) × ((reply : Result Done Refusal) × LineDone k k' l l' line reply

@@ -7,6 +7,6 @@ use Rattle.figures.specs.Coming.{lines_left}
 use Rattle.figures.specs.declared.lines.Lines.{Lines}
 
 -- what is made of a sheet: all its lines are to come, or it is too long
-abbrev pub Taken : List ℕ → Result Lines SheetFault → Type 0
-Taken sheet (Ok s) = (length sheet ≤ 65535) × (lines_left s ≡ lines_of sheet)
-Taken sheet (Err e) = (65535 < length sheet) × (e ≡ record { line = 0; fault = LongSheet })
+abbrev pub SheetTaken : List ℕ → Result Lines SheetFault → Type 0
+SheetTaken sheet (Ok s) = (length sheet ≤ 65535) × (lines_left s ≡ lines_of sheet)
+SheetTaken sheet (Err e) = (65535 < length sheet) × (e ≡ record { line = 0; fault = LongSheet })

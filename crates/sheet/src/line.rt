@@ -1,6 +1,6 @@
 //! What a line of a sheet does.
 ghost use Rattle.book.specs.Standings.{standing, Steady};
-ghost use Rattle.sheet.specs.Doing.{whole, LineDone, LineWritten};
+ghost use Rattle.sheet.specs.Doing.{whole_book, LineDone, LineWritten};
 
 use answers::{BufferFault, Done, Refusal, SheetFault, write_answer, write_fault};
 use book::Book;
@@ -26,8 +26,9 @@ fn answer<X: Table<Kern>, P: Fingerprint<Kern>, Y: Table<Ligature>, Q: Fingerpri
         Q.Fingerprint.number in
         Steady (kern kerns.old) (kern kerns.new)
         × Steady (ligature ligatures.old) (ligature ligatures.new) }
-    ensures done { let kern = whole X.Table.meaning X.Table.lender X.Table.beyond P.Fingerprint.number in
-        let ligature = whole Y.Table.meaning Y.Table.lender Y.Table.beyond
+    ensures done { let kern = whole_book X.Table.meaning X.Table.lender X.Table.beyond
+        P.Fingerprint.number in
+        let ligature = whole_book Y.Table.meaning Y.Table.lender Y.Table.beyond
         Q.Fingerprint.number in
         LineDone (kern kerns.old) (kern kerns.new)
         (ligature ligatures.old) (ligature ligatures.new) line.now result }
@@ -60,8 +61,9 @@ pub fn do_line<X: Table<Kern>, P: Fingerprint<Kern>, Y: Table<Ligature>, Q: Fing
         Q.Fingerprint.number in
         Steady (kern kerns.old) (kern kerns.new)
         × Steady (ligature ligatures.old) (ligature ligatures.new) }
-    ensures written { let kern = whole X.Table.meaning X.Table.lender X.Table.beyond P.Fingerprint.number in
-        let ligature = whole Y.Table.meaning Y.Table.lender Y.Table.beyond
+    ensures written { let kern = whole_book X.Table.meaning X.Table.lender X.Table.beyond
+        P.Fingerprint.number in
+        let ligature = whole_book Y.Table.meaning Y.Table.lender Y.Table.beyond
         Q.Fingerprint.number in
         LineWritten (kern kerns.old) (kern kerns.new)
         (ligature ligatures.old) (ligature ligatures.new) number line.now buf.old buf.new result }

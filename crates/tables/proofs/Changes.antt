@@ -6,7 +6,7 @@ use Rattle.kinds.specs.Keys.{same_key}
 use Rattle.tables.specs.declared.record.Record.{Record}
 use Rattle.tables.specs.Rows.{lookup, Apart}
 use Rattle.tables.specs.Meaning.{Meaning, SameFrame}
-use Rattle.tables.proofs.Options.{none_some, some_one, value_in, Of, same_is, differ_from}
+use Rattle.tables.proofs.Options.{none_some, some_one, record_value, Of, same_is, differ_from}
 use Rattle.tables.proofs.Lookups.{Stands, Absent, Only, Found, Missed, one_record, only_held, either, lookup_only, lookup_absent}
 
 -- nothing changes
@@ -82,11 +82,11 @@ module _ {K V : Type 0} (rows : List (Option (Record K V))) (p : ℕ) (k : K) (o
       by_cases (inr y) = record { at = i; here = off_place i r y e }
 
   -- what is looked up then
-  pub revalued_set : (bytes : K → List ℕ) → ((a b : K) → bytes a ≡ bytes b → a ≡ b) → Apart rows → (q : K) → lookup bytes (set rows p o) q ≡ cond (same_key bytes k q) (value_in o) (lookup bytes rows q)
+  pub revalued_set : (bytes : K → List ℕ) → ((a b : K) → bytes a ≡ bytes b → a ≡ b) → Apart rows → (q : K) → lookup bytes (set rows p o) q ≡ cond (same_key bytes k q) (record_value o) (lookup bytes rows q)
   revalued_set bytes apart a =
       let same : get_or (set rows p o) p None ≡ o = get_or-set_same rows p o None h in
-      carried_revalued bytes apart rows (set rows p o) k (value_in o) (apart_set a) carried_there carried_back
-      (lookup_only bytes apart (set rows p o) p k only_set (subst (λ x. Of x k) (sym same) new) ∙ ap value_in same)
+      carried_revalued bytes apart rows (set rows p o) k (record_value o) (apart_set a) carried_there carried_back
+      (lookup_only bytes apart (set rows p o) p k only_set (subst (λ x. Of x k) (sym same) new) ∙ ap record_value same)
 
 -- a record taken out at place p: the row of another place, the last one, comes to stand there, and the last one is freed
 module _ {K V : Type 0} (rows : List (Option (Record K V))) (p last : ℕ) (s : Record K V) (h : p < length rows) (g : last < length rows) (here : get_or rows p None ≡ Some s) (a : Apart rows) where

@@ -3,7 +3,7 @@ use Rattle.std.proofs.Common.{◌≡◌, ℕ, zero, suc, Bool, true, false, cond
 use Rattle.kinds.specs.Keys.{same_key}
 use Rattle.tables.specs.declared.record.Record.{Record}
 use Rattle.tables.specs.Rows.{lookup, keys_of, Apart}
-use Rattle.tables.proofs.Options.{none_some, some_one, value_in, Of, same_is, differ_from}
+use Rattle.tables.proofs.Options.{none_some, some_one, record_value, Of, same_is, differ_from}
 
 -- a place that holds the record
 pub record Stands {K V : Type 0} (rows : List (Option (Record K V))) (r : Record K V) : Type 0 where
@@ -69,19 +69,19 @@ module _ {K V : Type 0} (bytes : K → List ℕ) (apart : (a b : K) → bytes a 
   either (Some r ∷ rows) k = at_head (same_key bytes r.key k) r rows k refl (either rows k)
 
   -- the row of the only place where a key can stand
-  pub lookup_only : (rows : List (Option (Record K V))) (p : ℕ) (k : K) → Only rows p k → Of (get_or rows p None) k → lookup bytes rows k ≡ value_in (get_or rows p None)
+  pub lookup_only : (rows : List (Option (Record K V))) (p : ℕ) (k : K) → Only rows p k → Of (get_or rows p None) k → lookup bytes rows k ≡ record_value (get_or rows p None)
   lookup_only rows p k only own = by_cases (either rows k)
     where
-      empty : (o : Option (Record K V)) → o ≡ get_or rows p None → Of o k → Absent rows k → None ≡ value_in o
+      empty : (o : Option (Record K V)) → o ≡ get_or rows p None → Of o k → Absent rows k → None ≡ record_value o
       empty None e of none = refl
       empty (Some r) e of none = absurd (none p r (sym e) (of r refl))
 
-      by_cases : Found rows k ⊎ Missed rows k → lookup bytes rows k ≡ value_in (get_or rows p None)
-      by_cases (inl f) = f.found ∙ ap value_in (sym f.here ∙ ap (λ n. get_or rows n None) (only f.at f.r f.here f.own))
+      by_cases : Found rows k ⊎ Missed rows k → lookup bytes rows k ≡ record_value (get_or rows p None)
+      by_cases (inl f) = f.found ∙ ap record_value (sym f.here ∙ ap (λ n. get_or rows n None) (only f.at f.r f.here f.own))
       by_cases (inr m) = m.missed ∙ empty (get_or rows p None) refl own m.absent
 
   pub lookup_held : (rows : List (Option (Record K V))) (p : ℕ) (s : Record K V) → Apart rows → get_or rows p None ≡ Some s → lookup bytes rows s.key ≡ Some s.value
-  lookup_held rows p s a e = lookup_only rows p s.key (only_held rows p s a e) (λ r h. ap (λ x. x.key) (some_one r s (sym h ∙ e))) ∙ ap value_in e
+  lookup_held rows p s a e = lookup_only rows p s.key (only_held rows p s a e) (λ r h. ap (λ x. x.key) (some_one r s (sym h ∙ e))) ∙ ap record_value e
 
   pub lookup_absent : (rows : List (Option (Record K V))) (k : K) → Absent rows k → lookup bytes rows k ≡ None
   lookup_absent rows k none = by_cases (either rows k)

@@ -12,9 +12,9 @@ pub some_one : {A : Type 0} (a b : A) → Some a ≡ Some b → a ≡ b
 some_one a b e = cc
 
 -- the value in a row
-abbrev pub value_in : {K V : Type 0} → Option (Record K V) → Option V
-value_in (Some r) = Some r.value
-value_in None = None
+abbrev pub record_value : {K V : Type 0} → Option (Record K V) → Option V
+record_value (Some r) = Some r.value
+record_value None = None
 
 -- what the row holds, if anything, has the key
 abbrev pub Of : {K V : Type 0} → Option (Record K V) → K → Type 0

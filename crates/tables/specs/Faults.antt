@@ -4,7 +4,7 @@ use Rattle.tables.specs.declared.fault.TableFault.{TableFault}
 use Rattle.tables.specs.declared.fault.TableFault.TheVariants.{ForeignGlyph, TableFull, NotHeld}
 
 -- the number that a customer sees
-abbrev pub number_of : TableFault → ℕ
-number_of ForeignGlyph = 30
-number_of TableFull = 31
-number_of NotHeld = 32
+abbrev pub table_fault_number : TableFault → ℕ
+table_fault_number ForeignGlyph = 30
+table_fault_number TableFull = 31
+table_fault_number NotHeld = 32

@@ -10,8 +10,8 @@ lookup bytes (None ∷ rows) k = lookup bytes rows k
 lookup bytes (Some r ∷ rows) k = cond (same_key bytes r.key k) (Some r.value) (lookup bytes rows k)
 
 -- how many places hold a record
-abbrev pub count : {R : Type 0} → List (Option R) → ℕ
-count rows = count_by is_some rows
+abbrev pub record_count : {R : Type 0} → List (Option R) → ℕ
+record_count rows = count_by is_some rows
 
 -- the keys that are held, in the order of their places
 unfoldable pub keys_of : {K V : Type 0} → List (Option (Record K V)) → List K

@@ -1,6 +1,6 @@
 ghost use Rattle.std.specs.Prelude.{◌≡◌, Some};
 ghost use Rattle.std.specs.Fmt.{decimal};
-ghost use Rattle.tables.specs.Faults.{number_of};
+ghost use Rattle.tables.specs.Faults.{table_fault_number};
 
 use std::error::Error;
 use std::fmt;
@@ -19,7 +19,7 @@ pub enum TableFault {
 impl TableFault {
     /// The number that a customer sees.
     pub fn number(self) -> u32
-        ensures { result ≡ number_of self }
+        ensures { result ≡ table_fault_number self }
     {
         match self {
             TableFault::ForeignGlyph => 30,
@@ -32,7 +32,7 @@ impl TableFault {
 /// The number, in decimal digits.
 // kept: Display is implemented for one type at a time, and no macro of the repository may write impls.
 impl fmt::Display for TableFault {
-    ghost output = { λ fault. Some (decimal (number_of fault)) };
+    ghost output = { λ fault. Some (decimal (table_fault_number fault)) };
 
     fn fmt<W: fmt::Write>(&self, f: &mut fmt::Formatter<W>) -> fmt::Result {
         write!(f, "{}", self.number())

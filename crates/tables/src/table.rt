@@ -1,6 +1,6 @@
 ghost use Rattle.std.specs.Prelude.{◌≡◌, false, length, is_ok, None, slice_index_or};
 ghost use Rattle.std.specs.Borrow.{GName};
-ghost use Rattle.tables.specs.Meaning.{Meaning, Proper, SameFrame, value_in, held_in, SetDone, RemoveDone};
+ghost use Rattle.tables.specs.Meaning.{Meaning, Proper, SameFrame, value_in, key_count, SetDone, RemoveDone};
 
 use crate::fault::TableFault;
 use crate::record::Record;
@@ -47,7 +47,7 @@ pub trait Table<K: Kind> {
     /// How many keys are held.
     fn held(&self) -> u32
         requires { sound self.now }
-        ensures { result ≡ held_in (meaning self.now) };
+        ensures { result ≡ key_count (meaning self.now) };
 
     /// How many keys can be held.
     fn capacity(&self) -> u32

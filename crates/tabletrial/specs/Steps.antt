@@ -11,16 +11,16 @@ use Rattle.tabletrial.specs.declared.steps.Reply.{Reply}
 use Rattle.tabletrial.specs.declared.steps.Reply.TheVariants.{Done, Value}
 
 -- a step that changes the table says that it is done, or why it is refused, and does what a table owes
-abbrev pub Changed : (Result (Unit {0}) TableFault → Type 0) → Result Reply TableFault → Type 0
-Changed owed (Ok Done) = owed (Ok tt)
-Changed owed (Ok (Value o)) = ⊥
-Changed owed (Err f) = owed (Err f)
+abbrev pub ChangeTold : (Result (Unit {0}) TableFault → Type 0) → Result Reply TableFault → Type 0
+ChangeTold owed (Ok Done) = owed (Ok tt)
+ChangeTold owed (Ok (Value o)) = ⊥
+ChangeTold owed (Err f) = owed (Err f)
 
 -- A step makes table n of table m, and this is said. A look changes nothing and says the value; the others do what a table owes.
 abbrev pub Acted : Meaning Pair ℤ → Meaning Pair ℤ → Step → Result Reply TableFault → Type 0
 Acted m n (Look p) r = (r ≡ Ok (Value (value_in pair_bytes m p))) × (n ≡ m)
-Acted m n (Set p v) r = Changed (SetDone pair_bytes m n p v) r
-Acted m n (Remove p) r = Changed (RemoveDone pair_bytes m n p) r
+Acted m n (Set p v) r = ChangeTold (SetDone pair_bytes m n p v) r
+Acted m n (Remove p) r = ChangeTold (RemoveDone pair_bytes m n p) r
 
 -- what is printed of a pair
 abbrev pub pair_text : Pair → List ℕ

@@ -5,17 +5,18 @@ use lib.Pow.{high, low, split, shr_lt, shl-shr, mod-pow-add}
 use lib.Bits.{bit_or, or_shifted}
 use Rattle.std.proofs.lemmas.List.{get_or-set_same, get_or-set_other}
 use Rattle.std.proofs.lemmas.Bool.{cases_lt, cases_eq}
-use Rattle.words.specs.Bits.{field, bit_at}
-use Rattle.words.specs.Row.{row_of, Copied}
+use Rattle.std.specs.Int.{bit_at}
+use Rattle.words.specs.Bits.{field}
+use Rattle.words.specs.Row.{long_number, Copied}
 use Rattle.words.proofs.Fields.{field_lt, shr_past, low_low, field_low, bit_field, field_by_bits}
 use Rattle.words.proofs.Rows.{Words, bit_row, pair, field_pair}
 
 -- the word at `at`, written from a window v
 pub copied_word : (ws vs : List ℕ) (from at count v x : ℕ) → Words ws → Words vs → at % 64 + count ≤ 64 → at / 64 < length ws → vs ≡ set ws (at / 64) x
-    → ((k : ℕ) → k ≤ 64 → v % 2 ^ k ≡ field (row_of ws) from k)
+    → ((k : ℕ) → k ≤ 64 → v % 2 ^ k ≡ field (long_number ws) from k)
     → ((i : ℕ) → i < count → bit_at x (at % 64 + i) ≡ bit_at v i)
     → ((i : ℕ) → (i < at % 64) ⊎ (at % 64 + count ≤ i) → bit_at x i ≡ bit_at (get_or ws (at / 64) 0) i)
-    → Copied (row_of ws) (row_of vs) from at count
+    → Copied (long_number ws) (long_number vs) from at count
 copied_word ws vs from at count v x hw hv one room is window new old =
     let here : get_or vs (at / 64) 0 ≡ x = ap (λ l. get_or l (at / 64) 0) is ∙ get_or-set_same ws (at / 64) x 0 room in
     record {
@@ -23,7 +24,7 @@ copied_word ws vs from at count v x hw hv one room is window new old =
           let word : (at + i) / 64 ≡ at / 64 = omega arith in
           let inner : (at + i) % 64 ≡ at % 64 + i = omega arith in
           bit_row vs hv (at + i) ∙ ap₂ (λ j k. bit_at (get_or vs j 0) k) word inner ∙ ap (λ n. bit_at n (at % 64 + i)) here ∙ new i l
-          ∙ sym (field_low v i 1 64 (omega arith)) ∙ ap (λ n. bit_at n i) (window 64 (omega arith)) ∙ bit_field (row_of ws) from 64 i (omega arith);
+          ∙ sym (field_low v i 1 64 (omega arith)) ∙ ap (λ n. bit_at n i) (window 64 (omega arith)) ∙ bit_field (long_number ws) from 64 i (omega arith);
       others = λ i o. bit_row vs hv i ∙ ⊎_elim
           (λ (e : i / 64 ≡ at / 64).
           ap (λ j. bit_at (get_or vs j 0) (i % 64)) e ∙ ap (λ n. bit_at n (i % 64)) here
@@ -51,10 +52,10 @@ across_is hi lo i j e h =
 -- the word at `at`, written whole from two words that stand next to each other
 pub copied_whole : (ws vs : List ℕ) (from at x : ℕ) → Words ws → Words vs → at % 64 ≡ 0 → at / 64 < length ws → vs ≡ set ws (at / 64) x
     → x ≡ field (pair ws (from / 64)) (from % 64) 64
-    → Copied (row_of ws) (row_of vs) from at 64
+    → Copied (long_number ws) (long_number vs) from at 64
 copied_whole ws vs from at x hw hv whole room is made =
     copied_word ws vs from at 64 x x hw hv (omega arith) room is
-    (λ k l. ap (λ n. n % 2 ^ k) (made ∙ sym (field_pair ws from 64 hw (omega arith))) ∙ low_low (row_of ws / 2 ^ from) 64 k l)
+    (λ k l. ap (λ n. n % 2 ^ k) (made ∙ sym (field_pair ws from 64 hw (omega arith))) ∙ low_low (long_number ws / 2 ^ from) 64 k l)
     (λ i l. let e : at % 64 + i ≡ i = omega arith in ap (bit_at x) e)
     (λ i o. ⊎_elim (λ (l : i < at % 64). absurd (omega arith))
     (λ (l : at % 64 + 64 ≤ i).

@@ -5,8 +5,9 @@ use native.Mathlib.Nat.{mod-one, div-eq_of_lt}
 use lib.Pow.{high, low, field as field-mod, mod-mod-pow, mod-pow-add, ones_split, split, shr_mod, ones_lt}
 use Rattle.std.proofs.lemmas.Nat.{shl_below, shl_whole, one_shl}
 use Rattle.std.proofs.lemmas.Nat.Bits.{ones_shr}
+use Rattle.std.specs.Int.{bit_at}
 use lib.Bits.{bit_and, bit_or, and_block, or_block, and_mask, or_shifted, or_zero_r, or_lt, and_le_l}
-use Rattle.words.specs.Bits.{field, bit_at, bits}
+use Rattle.words.specs.Bits.{field, bits}
 
 pub field_lt : (n p k : ℕ) → field n p k < 2 ^ k
 field_lt n p k = mod-lt (n / 2 ^ p) (pow_pos k)
@@ -49,25 +50,25 @@ bits_lt f (suc n) h =
     let top : f n * 2 ^ n ≤ 1 * 2 ^ n = mul-le-mul_right (2 ^ n) (omega (arith, h n (omega arith))) in
     omega (arith, bits_lt f n (λ i l. h i (omega arith)), pow-suc 2 n)
 
-pub bits_at : (f : ℕ → ℕ) (n i : ℕ) → ((j : ℕ) → j < n → f j < 2) → i < n → bit_at (bits f n) i ≡ f i
+pub bit_at-bits : (f : ℕ → ℕ) (n i : ℕ) → ((j : ℕ) → j < n → f j < 2) → i < n → bit_at (bits f n) i ≡ f i
 unfolding bits
-bits_at f zero i h l = absurd (omega arith)
-bits_at f (suc n) i h l =
+bit_at-bits f zero i h l = absurd (omega arith)
+bit_at-bits f (suc n) i h l =
     let less : (j : ℕ) → j < n → f j < 2 = λ j g. h j (omega arith) in
     let small = bits_lt f n less in
     ap (λ x. bit_at x i) (add_comm (bits f n) (f n * 2 ^ n)) ∙ ⊎_elim
-    (λ (g : i < n). sym (field_low (f n * 2 ^ n + bits f n) i 1 n (omega arith)) ∙ ap (λ x. bit_at x i) (low (f n) n small) ∙ bits_at f n i less g)
+    (λ (g : i < n). sym (field_low (f n * 2 ^ n + bits f n) i 1 n (omega arith)) ∙ ap (λ x. bit_at x i) (low (f n) n small) ∙ bit_at-bits f n i less g)
     (λ (g : n ≤ i).
     let at : i ≡ n = omega arith in
     ap (bit_at (f n * 2 ^ n + bits f n)) at ∙ ap (λ x. x % 2) (high (f n) n small) ∙ mod-eq_of_lt (h n (omega arith)) ∙ ap f (sym at))
     (cases_lt i n)
 
 -- the number of n's own bits is n
-pub bits_of : (n k : ℕ) → bits (bit_at n) k ≡ n % 2 ^ k
+pub bits-bit_at : (n k : ℕ) → bits (bit_at n) k ≡ n % 2 ^ k
 unfolding bits
-bits_of n zero = sym (mod-one n)
-bits_of n (suc k) =
-    ap (λ x. x + bit_at n k * 2 ^ k) (bits_of n k) ∙ add_comm (n % 2 ^ k) (bit_at n k * 2 ^ k)
+bits-bit_at n zero = sym (mod-one n)
+bits-bit_at n (suc k) =
+    ap (λ x. x + bit_at n k * 2 ^ k) (bits-bit_at n k) ∙ add_comm (n % 2 ^ k) (bit_at n k * 2 ^ k)
     ∙ sym (mod-pow-add n 1 k) ∙ ap (λ x. n % 2 ^ x) (one-add k)
 
 pub bits_ext : (f g : ℕ → ℕ) (n : ℕ) → ((i : ℕ) → i < n → f i ≡ g i) → bits f n ≡ bits g n
@@ -78,7 +79,7 @@ bits_ext f g (suc n) h = ap₂ (λ x y. x + y * 2 ^ n) (bits_ext f g n (λ i l. 
 -- numbers with the same bits are one
 pub bits_one : (m n k : ℕ) → m < 2 ^ k → n < 2 ^ k → ((i : ℕ) → i < k → bit_at m i ≡ bit_at n i) → m ≡ n
 bits_one m n k hm hn h =
-    sym (bits_of m k ∙ mod-eq_of_lt hm) ∙ bits_ext (bit_at m) (bit_at n) k h ∙ bits_of n k ∙ mod-eq_of_lt hn
+    sym (bits-bit_at m k ∙ mod-eq_of_lt hm) ∙ bits_ext (bit_at m) (bit_at n) k h ∙ bits-bit_at n k ∙ mod-eq_of_lt hn
 
 -- fields with the same bits are one
 pub field_by_bits : (m n p q k : ℕ) → ((i : ℕ) → i < k → bit_at m (p + i) ≡ bit_at n (q + i)) → field m p k ≡ field n q k
@@ -88,56 +89,56 @@ field_by_bits m n p q k h =
 -- ---- writes
 
 -- n with v in its k bits from place p on: what stands above, then v, then what stands below
-abbrev pub put : ℕ → ℕ → ℕ → ℕ → ℕ
-put n p k v = (n / 2 ^ (k + p) * 2 ^ k + v) * 2 ^ p + n % 2 ^ p
+abbrev pub with_field : ℕ → ℕ → ℕ → ℕ → ℕ
+with_field n p k v = (n / 2 ^ (k + p) * 2 ^ k + v) * 2 ^ p + n % 2 ^ p
 
 -- the field that was written
-pub field_put : (n p k v : ℕ) → v < 2 ^ k → field (put n p k v) p k ≡ v
+pub field_put : (n p k v : ℕ) → v < 2 ^ k → field (with_field n p k v) p k ≡ v
 field_put n p k v h =
     ap (λ x. x % 2 ^ k) (high (n / 2 ^ (k + p) * 2 ^ k + v) p (mod-lt n (pow_pos p))) ∙ low (n / 2 ^ (k + p)) k h
 
 -- what stands above a field, at d places above it
-above : (n p k v d : ℕ) → v < 2 ^ k → put n p k v / 2 ^ ((p + k) + d) ≡ n / 2 ^ ((p + k) + d)
+above : (n p k v d : ℕ) → v < 2 ^ k → with_field n p k v / 2 ^ ((p + k) + d) ≡ n / 2 ^ ((p + k) + d)
 above n p k v d h =
-    sym (shr-shr (put n p k v) (p + k) d) ∙ ap (λ x. x / 2 ^ d)
-    (sym (shr-shr (put n p k v) p k) ∙ ap (λ x. x / 2 ^ k) (high (n / 2 ^ (k + p) * 2 ^ k + v) p (mod-lt n (pow_pos p)))
+    sym (shr-shr (with_field n p k v) (p + k) d) ∙ ap (λ x. x / 2 ^ d)
+    (sym (shr-shr (with_field n p k v) p k) ∙ ap (λ x. x / 2 ^ k) (high (n / 2 ^ (k + p) * 2 ^ k + v) p (mod-lt n (pow_pos p)))
     ∙ high (n / 2 ^ (k + p)) k h ∙ ap (λ x. n / 2 ^ x) (add_comm k p))
     ∙ shr-shr n (p + k) d
 
 -- a field apart from the one that was written
-pub field_put_other : (n p k v q m : ℕ) → v < 2 ^ k → (q + m ≤ p) ⊎ (p + k ≤ q) → field (put n p k v) q m ≡ field n q m
+pub field_put_other : (n p k v q m : ℕ) → v < 2 ^ k → (q + m ≤ p) ⊎ (p + k ≤ q) → field (with_field n p k v) q m ≡ field n q m
 field_put_other n p k v q m h (inl l) =
-    sym (field_low (put n p k v) q m p l)
+    sym (field_low (with_field n p k v) q m p l)
     ∙ ap (λ x. field x q m) (low (n / 2 ^ (k + p) * 2 ^ k + v) p (mod-lt n (pow_pos p))) ∙ field_low n q m p l
 field_put_other n p k v q m h (inr l) =
     let e : (p + k) + (q - (p + k)) ≡ q = omega arith in
-    ap (λ x. x % 2 ^ m) (subst (λ x. put n p k v / 2 ^ x ≡ n / 2 ^ x) e (above n p k v (q - (p + k)) h))
+    ap (λ x. x % 2 ^ m) (subst (λ x. with_field n p k v / 2 ^ x ≡ n / 2 ^ x) e (above n p k v (q - (p + k)) h))
 
 apart : (k i : ℕ) → (k ≡ i → ⊥) → (k + 1 ≤ i) ⊎ (i + 1 ≤ k)
 apart k i ne = ⊎_elim (λ g. inl (omega arith)) (λ g. inr (let z : k ≢ i = ne in omega arith)) (cases_lt k i)
 
 -- every bit after a write of one
-pub bit_put : (n i v k : ℕ) → v < 2 → bit_at (put n i 1 v) k ≡ cond (eqb k i) v (bit_at n k)
+pub bit_put : (n i v k : ℕ) → v < 2 → bit_at (with_field n i 1 v) k ≡ cond (eqb k i) v (bit_at n k)
 bit_put n i v k h =
-    cond_both (eqb k i) v (bit_at n k) (λ x. bit_at (put n i 1 v) k ≡ x)
-    (λ e. ap (bit_at (put n i 1 v)) (eqb-true k i e) ∙ field_put n i 1 v h)
+    cond_both (eqb k i) v (bit_at n k) (λ x. bit_at (with_field n i 1 v) k ≡ x)
+    (λ e. ap (bit_at (with_field n i 1 v)) (eqb-true k i e) ∙ field_put n i 1 v h)
     (λ e. field_put_other n i 1 v k 1 h (apart k i (eqb-false k i e)))
 
 -- the bits that a write of several puts, and the others
-pub bit_put_in : (n p k v i : ℕ) → v < 2 ^ k → i < k → bit_at (put n p k v) (p + i) ≡ bit_at v i
-bit_put_in n p k v i h l = sym (bit_field (put n p k v) p k i l) ∙ ap (λ x. bit_at x i) (field_put n p k v h)
+pub bit_put_in : (n p k v i : ℕ) → v < 2 ^ k → i < k → bit_at (with_field n p k v) (p + i) ≡ bit_at v i
+bit_put_in n p k v i h l = sym (bit_field (with_field n p k v) p k i l) ∙ ap (λ x. bit_at x i) (field_put n p k v h)
 
-pub bit_put_out : (n p k v i : ℕ) → v < 2 ^ k → (i < p) ⊎ (p + k ≤ i) → bit_at (put n p k v) i ≡ bit_at n i
+pub bit_put_out : (n p k v i : ℕ) → v < 2 ^ k → (i < p) ⊎ (p + k ≤ i) → bit_at (with_field n p k v) i ≡ bit_at n i
 bit_put_out n p k v i h o = field_put_other n p k v i 1 h (⊎_elim (λ g. inl (omega arith)) (λ g. inr g) o)
 
 -- a write of what is there
-put_same : (n p k : ℕ) → put n p k (field n p k) ≡ n
+put_same : (n p k : ℕ) → with_field n p k (field n p k) ≡ n
 put_same n p k =
     ap (λ x. (x * 2 ^ k + field n p k) * 2 ^ p + n % 2 ^ p) (ap (λ x. n / 2 ^ x) (add_comm k p) ∙ sym (shr-shr n p k))
     ∙ ap (λ x. x * 2 ^ p + n % 2 ^ p) (split (n / 2 ^ p) k) ∙ split n p
 
 -- a write adds what is new and takes off what was there
-pub put_sum : (n p k v : ℕ) → put n p k v + field n p k * 2 ^ p ≡ n + v * 2 ^ p
+pub put_sum : (n p k v : ℕ) → with_field n p k v + field n p k * 2 ^ p ≡ n + v * 2 ^ p
 put_sum n p k v =
     omega (arith, put_same n p k, add-mul (n / 2 ^ (k + p) * 2 ^ k) v (2 ^ p), add-mul (n / 2 ^ (k + p) * 2 ^ k) (field n p k) (2 ^ p))
 
@@ -160,7 +161,7 @@ cleared n j k p h =
     small = omega (arith, ones_split k p, pow_pos k, pow_pos p, pow_pos (k + p))
 
 put_masked : (n j k p v : ℕ) → n < 2 ^ (j + (k + p)) → v < 2 ^ k
-    → bit_or (bit_and n ((2 ^ (j + (k + p)) - 1) - (2 ^ k - 1) * 2 ^ p)) (v * 2 ^ p) ≡ put n p k v
+    → bit_or (bit_and n ((2 ^ (j + (k + p)) - 1) - (2 ^ k - 1) * 2 ^ p)) (v * 2 ^ p) ≡ with_field n p k v
 put_masked n j k p v h hv =
     ap₂ bit_or (cleared n j k p h) (sym (add-zero (v * 2 ^ p)))
     ∙ or_block p (n / 2 ^ (k + p) * 2 ^ k) v (n % 2 ^ p) zero (mod-lt n (pow_pos p)) (pow_pos p)
@@ -168,28 +169,28 @@ put_masked n j k p v h hv =
 
 -- the same in a word of w bits
 put_word : (w n p k v : ℕ) → n < 2 ^ w → k + p ≤ w → v < 2 ^ k
-    → bit_or (bit_and n ((2 ^ w - 1) - (2 ^ k - 1) * 2 ^ p)) (v * 2 ^ p) ≡ put n p k v
+    → bit_or (bit_and n ((2 ^ w - 1) - (2 ^ k - 1) * 2 ^ p)) (v * 2 ^ p) ≡ with_field n p k v
 put_word w n p k v h l hv =
     let e : (w - (k + p)) + (k + p) ≡ w = omega arith in
-    subst (λ x. n < 2 ^ x → bit_or (bit_and n ((2 ^ x - 1) - (2 ^ k - 1) * 2 ^ p)) (v * 2 ^ p) ≡ put n p k v) e
+    subst (λ x. n < 2 ^ x → bit_or (bit_and n ((2 ^ x - 1) - (2 ^ k - 1) * 2 ^ p)) (v * 2 ^ p) ≡ with_field n p k v) e
     (λ g. put_masked n (w - (k + p)) k p v g hv) h
 
 -- the same where the shifts of code cut off what passes the word
 put_shifted : (w n p k v : ℕ) → n < 2 ^ w → k + p ≤ w → v < 2 ^ k
-    → bit_or (bit_and n ((2 ^ w - 1) - ((2 ^ k - 1) * 2 ^ p) % 2 ^ w)) ((v * 2 ^ p) % 2 ^ w) ≡ put n p k v
+    → bit_or (bit_and n ((2 ^ w - 1) - ((2 ^ k - 1) * 2 ^ p) % 2 ^ w)) ((v * 2 ^ p) % 2 ^ w) ≡ with_field n p k v
 put_shifted w n p k v h l hv =
     ap₂ (λ x y. bit_or (bit_and n ((2 ^ w - 1) - x)) y) (shl_whole (2 ^ k - 1) k p w (ones_lt k) l) (shl_whole v k p w hv l)
     ∙ put_word w n p k v h l hv
 
 -- `(n & !(((1 << k) - 1) << p)) | (v << p)`
 pub put_code : (w n p k v : ℕ) → n < 2 ^ w → k < w → k + p ≤ w → v < 2 ^ k
-    → bit_or (bit_and n ((2 ^ w - 1) - ((((1 * 2 ^ k) % 2 ^ w) - 1) * 2 ^ p) % 2 ^ w)) ((v * 2 ^ p) % 2 ^ w) ≡ put n p k v
+    → bit_or (bit_and n ((2 ^ w - 1) - ((((1 * 2 ^ k) % 2 ^ w) - 1) * 2 ^ p) % 2 ^ w)) ((v * 2 ^ p) % 2 ^ w) ≡ with_field n p k v
 put_code w n p k v h s l hv =
     ap (λ x. bit_or (bit_and n ((2 ^ w - 1) - ((x - 1) * 2 ^ p) % 2 ^ w)) ((v * 2 ^ p) % 2 ^ w)) (one_shl k w s) ∙ put_shifted w n p k v h l hv
 
 -- `(n & !(mask << p)) | ((v & mask) << p)` with the mask `MAX >> (w - k)`, where the field may fill the word
 pub put_low : (w n p k v : ℕ) → n < 2 ^ w → k + p ≤ w
-    → bit_or (bit_and n ((2 ^ w - 1) - ((2 ^ w - 1) / 2 ^ (w - k) * 2 ^ p) % 2 ^ w)) ((bit_and v ((2 ^ w - 1) / 2 ^ (w - k)) * 2 ^ p) % 2 ^ w) ≡ put n p k (v % 2 ^ k)
+    → bit_or (bit_and n ((2 ^ w - 1) - ((2 ^ w - 1) / 2 ^ (w - k) * 2 ^ p) % 2 ^ w)) ((bit_and v ((2 ^ w - 1) / 2 ^ (w - k)) * 2 ^ p) % 2 ^ w) ≡ with_field n p k (v % 2 ^ k)
 put_low w n p k v h l =
     let e : w - (w - k) ≡ k = omega arith in
     ap (λ x. bit_or (bit_and n ((2 ^ w - 1) - (x * 2 ^ p) % 2 ^ w)) ((bit_and v x * 2 ^ p) % 2 ^ w))
@@ -197,7 +198,7 @@ put_low w n p k v h l =
     ∙ ap (λ x. bit_or (bit_and n ((2 ^ w - 1) - ((2 ^ k - 1) * 2 ^ p) % 2 ^ w)) ((x * 2 ^ p) % 2 ^ w)) (and_mask v k)
     ∙ put_shifted w n p k (v % 2 ^ k) h l (mod-lt v (pow_pos k))
 
-pub put_lt : (w n p k v : ℕ) → n < 2 ^ w → k + p ≤ w → v < 2 ^ k → put n p k v < 2 ^ w
+pub put_lt : (w n p k v : ℕ) → n < 2 ^ w → k + p ≤ w → v < 2 ^ k → with_field n p k v < 2 ^ w
 put_lt w n p k v h l hv =
     let small : v * 2 ^ p < 2 ^ w = lt_of_lt_of_le (shl_below v k p hv) (pow_mono l) in
     rw (← put_word w n p k v h l hv) (or_lt w (bit_and n ((2 ^ w - 1) - (2 ^ k - 1) * 2 ^ p)) (v * 2 ^ p)

@@ -6,7 +6,8 @@ use lib.Bits.{bit_and, and_block, and_shifted, and_self}
 use lib.Count.{ones, ones_cat, count_trailing_zeros, under}
 use Rattle.std.proofs.lemmas.Bool.{cases_lt}
 use Rattle.std.proofs.lemmas.Nat.{pow_below, div_below}
-use Rattle.words.specs.Bits.{bit_at, ones_under}
+use Rattle.std.specs.Int.{bit_at}
+use Rattle.words.specs.Bits.{ones_under}
 
 ones_digit : (d : ℕ) → d < 2 → ones d ≡ d
 unfolding ones
@@ -15,9 +16,9 @@ ones_digit (suc zero) h = refl
 ones_digit (suc (suc d)) h = absurd (omega arith)
 
 -- one place more
-pub below_more : (n m : ℕ) → (ones_under n (m + 1) ≡ ones_under n m + bit_at n m) × (bit_at n m < 2)
+pub ones_under_more : (n m : ℕ) → (ones_under n (m + 1) ≡ ones_under n m + bit_at n m) × (bit_at n m < 2)
 unfolding ones_under
-below_more n m = (ap (ones_under n) (add-one m), mod-lt (n / 2 ^ m) (pow_pos 1))
+ones_under_more n m = (ap (ones_under n) (add-one m), mod-lt (n / 2 ^ m) (pow_pos 1))
 
 -- the count by places is the library's count of the low bits
 pub below_is : (n m : ℕ) → ones_under n m ≡ ones (n % 2 ^ m)
@@ -76,7 +77,7 @@ past h i s m l =
 pub ones_mono : (n i j : ℕ) → i ≤ j → ones_under n i ≤ ones_under n j
 ones_mono n i zero l = let e : i ≡ 0 = omega arith in omega (arith, ap (ones_under n) e)
 ones_mono n i (suc j) l =
-    ⊎_elim (λ (g : i < suc j). omega (arith, ap (ones_under n) (sym (add-one j)), (below_more n j).0, ones_mono n i j (omega arith)))
+    ⊎_elim (λ (g : i < suc j). omega (arith, ap (ones_under n) (sym (add-one j)), (ones_under_more n j).0, ones_mono n i j (omega arith)))
     (λ (g : suc j ≤ i). let e : i ≡ suc j = omega arith in omega (arith, ap (ones_under n) e)) (cases_lt i (suc j))
 
 -- no ones past a number's width

@@ -1,13 +1,10 @@
 -- The bits of a number, lowest first: places count from 0.
 use Rattle.std.specs.Prelude.{◌≡◌, ℕ, zero, suc, ◌+◌, ◌*◌, ◌/◌, ◌%◌, ◌^◌, ◌<◌, ◌⊎◌, Some, None, Option}
+use Rattle.std.specs.Int.{bit_at}
 
 -- the number that the k bits of n from place p on make
 abbrev pub field : ℕ → ℕ → ℕ → ℕ
 field n p k = n / 2 ^ p % 2 ^ k
-
--- the bit of n at place p: 1 or 0
-abbrev pub bit_at : ℕ → ℕ → ℕ
-bit_at n p = n / 2 ^ p % 2
 
 -- the number whose bit at place i is f i, for the places below n
 unfoldable pub bits : (ℕ → ℕ) → ℕ → ℕ

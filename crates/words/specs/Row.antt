@@ -1,11 +1,11 @@
 -- A row of 64-bit words.
 use Rattle.std.specs.Prelude.{◌≡◌, ℕ, ◌+◌, ◌*◌, ◌^◌, ◌<◌, ◌≤◌, ◌⊎◌, List, [], ◌∷◌}
-use Rattle.words.specs.Bits.{bit_at}
+use Rattle.std.specs.Int.{bit_at}
 
 -- the words as one long number, the lowest word first
-unfoldable pub row_of : List ℕ → ℕ
-row_of [] = 0
-row_of (w ∷ ws) = row_of ws * 2 ^ 64 + w
+unfoldable pub long_number : List ℕ → ℕ
+long_number [] = 0
+long_number (w ∷ ws) = long_number ws * 2 ^ 64 + w
 
 -- m has at `count` places from `at` on what n has from place `from` on, and elsewhere what n has
 pub record Copied (n m from at count : ℕ) : Type 0 where

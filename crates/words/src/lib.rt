@@ -1,8 +1,9 @@
 #![tactic(auto)]
 
 ghost use Rattle.std.specs.Prelude.{◌≡◌, ℕ, ◌+◌, ◌-◌, ◌*◌, ◌/◌, ◌%◌, ◌^◌, ◌<◌, ◌≤◌, min, ◌⊎◌, length, if◌then◌else◌, MatchOption, ◌==◌, nat_eq, slice_index, slice_set};
-ghost use Rattle.words.specs.Bits.{field, bit_at, ones_under, Selected};
-ghost use Rattle.words.specs.Row.{row_of};
+ghost use Rattle.std.specs.Int.{bit_at};
+ghost use Rattle.words.specs.Bits.{field, ones_under, Selected};
+ghost use Rattle.words.specs.Row.{long_number};
 
 mod moves;
 
@@ -138,7 +139,7 @@ fn pair(words: &[u64], place: usize) -> u128
 
 /// The 64 bits of the row from `place` on: its low `k` bits are the field of `k` bits there.
 fn window(words: &[u64], place: usize) -> u64
-    ensures { (k : ℕ) → k ≤ 64 → result % 2 ^ k ≡ field (row_of words.now) place k }
+    ensures { (k : ℕ) → k ≤ 64 → result % 2 ^ k ≡ field (long_number words.now) place k }
 {
     ((pair(words, place) >> (place % 64)) % (1 << 64)) as u64
 }
@@ -163,7 +164,7 @@ fn set_pair(words: &mut [u64], j: usize, v: u128)
 
 /// The field that begins at `place`, a count of bits from the lowest of the first word: past the last word all bits are 0.
 pub fn field(words: &[u64], place: usize, width: Width) -> u32
-    ensures { result ≡ field (row_of words.now) place width.bits }
+    ensures { result ≡ field (long_number words.now) place width.bits }
 {
     low(window(words, place), width)
 }
@@ -171,8 +172,10 @@ pub fn field(words: &[u64], place: usize, width: Width) -> u32
 /// Writes the low bits of `v` into the field that begins at `place`, and leaves every other bit as it was:
 /// does nothing where a part of the field is past the last word.
 pub fn set_field(words: &mut [u64], place: usize, width: Width, v: u32)
-    ensures written { place + width.bits ≤ 64 * length words.old → field (row_of words.new) place width.bits ≡ v % 2 ^ width.bits }
-    ensures others { (p k : ℕ) → (p + k ≤ place) ⊎ (place + width.bits ≤ p) → field (row_of words.new) p k ≡ field (row_of words.old) p k }
+    ensures written { place + width.bits ≤ 64 * length words.old
+        → field (long_number words.new) place width.bits ≡ v % 2 ^ width.bits }
+    ensures others { (p k : ℕ) → (p + k ≤ place) ⊎ (place + width.bits ≤ p)
+        → field (long_number words.new) p k ≡ field (long_number words.old) p k }
     ensures past { 64 * length words.old < place + width.bits → words.new ≡ words.old }
 {
     let j = place / 64;

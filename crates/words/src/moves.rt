@@ -1,7 +1,7 @@
 //! Bits of a row moved by the width of a field, a word at a time.
 ghost use Rattle.std.specs.Prelude.{◌≡◌, ℕ, ◌+◌, ◌-◌, ◌*◌, ◌/◌, ◌%◌, ◌^◌, ◌<◌, ◌≤◌, ◌⊎◌, length};
-ghost use Rattle.words.specs.Bits.{bit_at};
-ghost use Rattle.words.specs.Row.{row_of, Copied};
+ghost use Rattle.std.specs.Int.{bit_at};
+ghost use Rattle.words.specs.Row.{long_number, Copied};
 
 use crate::{Width, window};
 
@@ -21,7 +21,7 @@ fn copy_bits(words: &mut [u64], from: usize, at: usize, count: usize)
     requires some { 1 ≤ count }
     requires one_word { at % 64 + count ≤ 64 }
     requires room { at / 64 < length words.old }
-    ensures { Copied (row_of words.old) (row_of words.new) from at count }
+    ensures { Copied (long_number words.old) (long_number words.new) from at count }
 {
     let v = window(words, from);
     let w = &mut words[at / 64];
@@ -42,7 +42,7 @@ fn copy_word_up(words: &mut [u64], at: usize, by: Width)
     requires whole { at % 64 ≡ 0 }
     requires above { 64 ≤ at }
     requires room { at / 64 < length words.old }
-    ensures { Copied (row_of words.old) (row_of words.new) (at - by.bits) at 64 }
+    ensures { Copied (long_number words.old) (long_number words.new) (at - by.bits) at 64 }
 {
     let j = at / 64;
     words[j] = across(words[j - 1], words[j], 64 - by.bits);
@@ -52,7 +52,7 @@ fn copy_word_up(words: &mut [u64], at: usize, by: Width)
 fn copy_word_down(words: &mut [u64], at: usize, by: Width)
     requires whole { at % 64 ≡ 0 }
     requires room { at / 64 + 1 < length words.old }
-    ensures { Copied (row_of words.old) (row_of words.new) (at + by.bits) at 64 }
+    ensures { Copied (long_number words.old) (long_number words.new) (at + by.bits) at 64 }
 {
     let j = at / 64;
     words[j] = across(words[j], words[j + 1], by.bits);
@@ -61,7 +61,9 @@ fn copy_word_down(words: &mut [u64], at: usize, by: Width)
 /// Moves the bits at the places `from` to `to - 1` up by one field of that width, word by word from the highest:
 /// the lowest field keeps its own, and the highest is lost. Nothing happens where a part of them is past the last word.
 pub fn move_bits_up(words: &mut [u64], from: usize, to: usize, by: Width)
-    ensures inside { to ≤ 64 * length words.old → Copied (row_of words.old) (row_of words.new) from (from + by.bits) (to - (from + by.bits)) }
+    ensures inside { to ≤ 64 * length words.old
+        → Copied (long_number words.old) (long_number words.new) from (from + by.bits)
+        (to - (from + by.bits)) }
     ensures past { 64 * length words.old < to → words.new ≡ words.old }
 {
     let step = by.bits as usize;
@@ -85,7 +87,9 @@ pub fn move_bits_up(words: &mut [u64], from: usize, to: usize, by: Width)
 /// Moves the bits at the places `from` to `to - 1` down by one field of that width, word by word from the lowest:
 /// the highest field keeps its own, and the lowest is lost. Nothing happens where a part of them is past the last word.
 pub fn move_bits_down(words: &mut [u64], from: usize, to: usize, by: Width)
-    ensures inside { to ≤ 64 * length words.old → Copied (row_of words.old) (row_of words.new) (from + by.bits) from (to - (from + by.bits)) }
+    ensures inside { to ≤ 64 * length words.old
+        → Copied (long_number words.old) (long_number words.new) (from + by.bits) from
+        (to - (from + by.bits)) }
     ensures past { 64 * length words.old < to → words.new ≡ words.old }
 {
     let step = by.bits as usize;

@@ -1,11 +1,11 @@
 use Rattle.std.proofs.Common.{◌≡◌, ℕ, List, [], ◌∷◌, length, get_or, replicate, Some, Option, sym, refl, ap, ◌∙◌, ap₂, arith}
-use Rattle.layout.specs.Rule.{remainder, insert, sorted, remove}
+use Rattle.layout.specs.Rule.{remainder, with_one, sorted, without_one}
 use Rattle.layout.specs.Format.{block_count}
 use Rattle.layout.proofs.Inserts.{sorted_sorted}
 use Rattle.blocks.specs.declared.Quotient.{Quotient}
 use Rattle.layout.proofs.Formats.{words_any_order}
 use Rattle.filter.specs.Slots.{slot_shown}
-use Rattle.examples.specs.Examples.{Sized}
+use Rattle.examples.specs.Examples.{SmallFilter}
 use Rattle.examples.proofs.Words.{words_by, sized_adds, sized_take, adds_sorted, empty_words, three_words, two_words, long_words}
 use Rattle.examples.proofs.Refusals.{refused, accepted, given, small, crowd_two, crowd_three, free_zero}
 use Rattle.examples.proofs.Accepts.{none_refused, three_room, three_narrow, zeros_room, zeros_narrow}
@@ -13,12 +13,12 @@ use Rattle.examples.proofs.Lasts.{lasts, last_slots, last_words, lasts_accepted}
 use Rattle.examples.proofs.Selects.{rank_five, select_second, select_third}
 use Rattle.examples.proofs.examples.Goals as goal
 
-without-first : remove 1287 (1287 ∷ 1289 ∷ 1539 ∷ []) ≡ 1289 ∷ 1539 ∷ []
-unfolding remove
+without-first : without_one 1287 (1287 ∷ 1289 ∷ 1539 ∷ []) ≡ 1289 ∷ 1539 ∷ []
+unfolding without_one
 without-first = refl
 
 order : sorted (1289 ∷ 1287 ∷ 1539 ∷ []) ≡ 1287 ∷ 1289 ∷ 1539 ∷ []
-unfolding sorted insert
+unfolding sorted with_one
 order = refl
 
 pub returns : goal.returns
@@ -26,14 +26,14 @@ returns c = record {
   empty_block = λ p lent f q r few many begun.
       let one : block_count 8 (length lent.now) ≡ 1 = omega arith in
       let blocks = begun.blocks ∙ ap (λ x. block_count x (length lent.now)) r ∙ one in
-      let size : Sized f 1 = record { quotients = ap (λ x. x.q) begun.plan ∙ q; remainders = ap (λ x. x.r) begun.plan ∙ r; blocks = blocks } in
+      let size : SmallFilter f 1 = record { quotients = ap (λ x. x.q) begun.plan ∙ q; remainders = ap (λ x. x.r) begun.plan ∙ r; blocks = blocks } in
       (blocks, words_by f 1 [] size begun.empty ∙ empty_words);
   no_entries = λ f s e. words_by f 1 [] s e ∙ empty_words;
   three_entries = λ f g ps s e order all. words_by g 1 _ (sized_adds f g 1 ps s all) (adds_sorted f g ps e all ∙ order) ∙ three_words;
   such_an_order = order;
   three_accepted = none_refused 1 (1287 ∷ 1289 ∷ 1539 ∷ []) three_room three_narrow;
   one_taken = λ f g h ps s e order all out.
-      words_by h 1 _ (sized_take g h 1 1287 (sized_adds f g 1 ps s all) out) (out.done.2 ∙ ap (remove 1287) (adds_sorted f g ps e all ∙ order) ∙ without-first)
+      words_by h 1 _ (sized_take g h 1 1287 (sized_adds f g 1 ps s all) out) (out.done.2 ∙ ap (without_one 1287) (adds_sorted f g ps e all ∙ order) ∙ without-first)
       ∙ two_words;
   take_accepted = λ g h res s e. given g h 1 1287 (1287 ∷ 1289 ∷ 1539 ∷ []) res s e (omega arith) (omega arith);
   run_over = λ f g ps s e t all.

@@ -1,6 +1,6 @@
 //! The calls on single fingerprints.
 ghost use Rattle.std.specs.Prelude.{◌≡◌};
-ghost use Rattle.filter.specs.Filters.{SameFilter, Answered, Added, Taken};
+ghost use Rattle.filter.specs.Filters.{SameFilter, SaysWhether, Added, Taken};
 
 use crate::editing::{put_entry, take_entry};
 use crate::fault::FilterFault;
@@ -9,7 +9,7 @@ use crate::filter::Filter;
 impl Filter<'_> {
     /// Whether an entry has the fingerprint; refused where it is no fingerprint under the plan.
     pub fn has(&self, fingerprint: u64) -> Result<bool, FilterFault>
-        ensures { Answered self.now fingerprint result }
+        ensures { SaysWhether self.now fingerprint result }
     {
         if !self.plan.admits(fingerprint) {
             return Err(FilterFault::WideFingerprint);

@@ -1,7 +1,7 @@
 //! Where an entry comes or goes.
 ghost use Rattle.std.specs.Prelude.{◌≡◌, ◌^◌, ◌<◌, MatchOption};
 ghost use Rattle.layout.specs.Rule.{quotient};
-ghost use Rattle.layout.specs.Laws.{count};
+ghost use Rattle.layout.specs.Laws.{copies_of};
 ghost use Rattle.filter.specs.Arrivals.{Arrives, NoneArrives, Departs};
 ghost use Rattle.filter.specs.Layouts.{bits_of, entries};
 
@@ -39,7 +39,7 @@ impl Layout<'_> {
     pub(crate) fn departure(&self, fingerprint: u64) -> Option<Departure>
         requires { quotient (bits_of self.now) fingerprint < 2 ^ 32 }
         ensures { MatchOption result
-            (count fingerprint (entries self.now) ≡ 0)
+            (copies_of fingerprint (entries self.now) ≡ 0)
             (λ d. Departs (bits_of self.now) self.now.count (entries self.now) fingerprint d.quotient.0 d.at.0 d.gap.0 d.follows d.only) }
     {
         let place = self.find(fingerprint)?;

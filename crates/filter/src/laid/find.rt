@@ -1,7 +1,7 @@
 //! Finds the entries of a fingerprint.
 ghost use Rattle.std.specs.Prelude.{◌≡◌, ℕ, ◌+◌, ◌*◌, ◌^◌, ◌<◌, ◌≤◌, MatchOption, ◌≢◌, true, false, nat_lt};
 ghost use Rattle.layout.specs.Rule.{quotient};
-ghost use Rattle.layout.specs.Laws.{count};
+ghost use Rattle.layout.specs.Laws.{copies_of};
 ghost use Rattle.layout.specs.Load.{start};
 ghost use Rattle.filter.specs.Locating.{Placed};
 ghost use Rattle.filter.specs.Slots.{InRun};
@@ -59,7 +59,7 @@ impl Layout<'_> {
     pub(crate) fn find(&self, fingerprint: u64) -> Option<Place>
         requires { quotient (bits_of self.now) fingerprint < 2 ^ 32 }
         ensures { MatchOption result
-            (count fingerprint (entries self.now) ≡ 0)
+            (copies_of fingerprint (entries self.now) ≡ 0)
             (λ x. Placed (bits_of self.now) (entries self.now) fingerprint x.quotient.0 x.from.0 x.to.0 x.at.0) }
     {
         let c = quotient_of(self.blocks.width, fingerprint);
@@ -81,7 +81,7 @@ impl Layout<'_> {
     /// Whether an entry has the fingerprint.
     pub(crate) fn has(&self, fingerprint: u64) -> bool
         requires { quotient (bits_of self.now) fingerprint < 2 ^ 32 }
-        ensures { result ≡ nat_lt 0 (count fingerprint (entries self.now)) }
+        ensures { result ≡ nat_lt 0 (copies_of fingerprint (entries self.now)) }
     {
         let c = quotient_of(self.blocks.width, fingerprint);
         self.blocks.occupied(c) && self.run_has(c, remainder_of(self.blocks.width, fingerprint))

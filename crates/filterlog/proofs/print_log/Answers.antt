@@ -1,7 +1,7 @@
 use Rattle.std.proofs.Common.{rules, ◌≡◌, [], ◌++◌, Some, Err, IfSome}
 use Rattle.figures.specs.Lines.{lines_of}
 use Rattle.figures.specs.Coming.{lines_left}
-use Rattle.filterlog.specs.Logs.{Begun, InRange, Printed}
+use Rattle.filterlog.specs.Logs.{FilterBegun, PlanInRange, LogPrinted}
 use Rattle.filterlog.proofs.Beginning.{blocks_exact}
 use Rattle.console.proofs.Sendings.{appends_none, appends_more}
 use Rattle.filterlog.proofs.Growing.{sofar_none, sofar_more, sofar_all}
@@ -23,7 +23,7 @@ loop-line-preserved g c =
 pub returns-clause-done : goal.returns-clause-done
 returns-clause-done g c =
     let asked : c.args.request ≡ Some c.in_ok-request.request = search rules in
-    let printed : Printed c.in_ok-request.request (g.R.Read.remaining c.args.log.now) (g.W.Write.contents c.args.out.now) (g.W.Write.contents c.loop-line.out) = record {
+    let printed : LogPrinted c.in_ok-request.request (g.R.Read.remaining c.args.log.now) (g.W.Write.contents c.args.out.now) (g.W.Write.contents c.loop-line.out) = record {
       log = c.as_slice.result.now;
       read = search rules;
       before = c.begin-filter.result;
@@ -43,10 +43,10 @@ returns-clause-done g c =
 pub returns-in_err-print_answer-clause-done : goal.returns-in_err-print_answer-clause-done
 returns-in_err-print_answer-clause-done g c =
     let asked : c.args.request ≡ Some c.in_ok-request.request = search rules in
-    let range : InRange c.in_ok-request.request = search rules in
+    let range : PlanInRange c.in_ok-request.request = search rules in
     let same : c.from_residual-in_err-print_answer.result ≡ Err c.in_err-print_answer.field-0.0 = search rules in
     let read : IfSome (g.R.Read.remaining c.args.log.now) (λ bytes. c.as_slice.result.now ≡ bytes) = search rules in
-    let begun : Begun c.in_ok-request.request c.begin-filter.result = record {
+    let begun : FilterBegun c.in_ok-request.request c.begin-filter.result = record {
       q = search rules;
       r = search rules;
       blocks = blocks_exact c.in_ok-plan.plan.r _ _ _ _ (search rules) c.as_mut_slice.ensures.len c.in_ok-words.ensures.size;

@@ -1,6 +1,6 @@
 //! The calls on a grid table.
 ghost use Rattle.std.specs.Prelude.{◌≡◌, ◌<◌, false, List, length, is_ok, ℤ, if◌then◌else◌, Some, None, slice_index_or};
-ghost use Rattle.gridtable.specs.Grids.{side_of, in_square, cells_after, place_of, free_cell, value_of, grid_meaning, empty_grid, emptied, beyond_grid, HeldPlace};
+ghost use Rattle.gridtable.specs.Grids.{side_of, in_square, cells_after, pair_place, free_cell, value_of, grid_meaning, empty_grid, emptied, beyond_grid, HeldPlace};
 ghost use Rattle.gridtable.specs.Propers.{proper_grid};
 ghost use Rattle.kinds.specs.Bytes.{pair_bytes};
 ghost use Rattle.tables.specs.Meaning.{SameFrame, SetDone, RemoveDone};
@@ -56,7 +56,9 @@ impl<'a> GridTable<'a> {
 impl GridTable<'_> {
     /// Where the cell of a pair lies, if the pair is admitted.
     fn place(&self, pair: Pair) -> Option<usize>
-        ensures { result ≡ (if in_square self.now.side pair then Some (place_of self.now.side pair) else None) }
+        ensures { result
+            ≡ (if in_square self.now.side pair then Some
+            (pair_place self.now.side pair) else None) }
     {
         let Pair { left, right } = pair;
         let inside = u32::from(left) < self.side && u32::from(right) < self.side;

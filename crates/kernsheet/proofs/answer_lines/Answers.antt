@@ -6,7 +6,7 @@ use Rattle.std.specs.declared.ops.RangeFrom.{RangeFrom}
 use Rattle.figures.specs.Coming.{lines_left}
 use Rattle.figures.specs.declared.lines.Lines.{Lines}
 use Rattle.answers.specs.Texts.{answer_line}
-use Rattle.sheet.specs.Doing.{whole}
+use Rattle.sheet.specs.Doing.{whole_book}
 use Rattle.kernsheet.proofs.Sofar.{sofar_none, sofar_more, sofar_all}
 use Rattle.kernsheet.proofs.answer_lines.Goals as goal
 
@@ -32,8 +32,8 @@ loop-line-preserved g c =
     let inv = c.loop-line.invariant in
     let steps = c.in-Some.ensures.steps in
     let done = c.in-Ok.ensures.written.1 in
-    let kern = whole g.X.Table.meaning g.X.Table.lender g.X.Table.beyond g.P.Fingerprint.number in
-    let ligature = whole g.Y.Table.meaning g.Y.Table.lender g.Y.Table.beyond g.Q.Fingerprint.number in
+    let kern = whole_book g.X.Table.meaning g.X.Table.lender g.X.Table.beyond g.P.Fingerprint.number in
+    let ligature = whole_book g.Y.Table.meaning g.Y.Table.lender g.Y.Table.beyond g.Q.Fingerprint.number in
     let line = answer_line c.in-Some.number done.0 in
     let n = c.in-Ok.bytes in
     let bytes : take n c.do_line.new.buf ≡ line = ap (take n) done.4 ∙ take_at line (drop n _) n (sym done.2) in

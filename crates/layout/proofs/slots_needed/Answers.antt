@@ -2,7 +2,7 @@ use Rattle.std.proofs.Common.{◌≡◌, ℕ, ◌+◌, ◌-◌, ◌/◌, ◌^◌
 use lib.Pow.{shr_le}
 use Rattle.std.proofs.lemmas.List.{take_all}
 use Rattle.layout.specs.Rule.{quotient}
-use Rattle.layout.specs.Places.{after}
+use Rattle.layout.specs.Places.{slot_after}
 use Rattle.layout.proofs.Bridge.{after_more}
 use Rattle.layout.proofs.Rooms.{room_after}
 use Rattle.layout.proofs.slots_needed.Goals as goal
@@ -32,7 +32,7 @@ pub returns : goal.returns
 returns c =
     let ps = c.args.rising.now in
     let r = c.args.width.bits in
-    let all : c.loop-p.next ≡ after r 0 ps = c.loop-p.invariant.0 ∙ ap (after r 0) (take_all c.loop-p.p-index ps c.loop-p-test.false) in
+    let all : c.loop-p.next ≡ slot_after r 0 ps = c.loop-p.invariant.0 ∙ ap (slot_after r 0) (take_all c.loop-p.p-index ps c.loop-p-test.false) in
     record {
       fits = λ s slots l. (room_after slots r ps s).1 (omega arith);
       only = λ s slots h. omega (arith, (room_after slots r ps s).0 h);

@@ -1,5 +1,5 @@
 use Rattle.std.proofs.Common.{◌≡◌, ◌<◌, cond, eqb, ap, ◌∙◌, arith, rules}
-use Rattle.words.specs.Bits.{bit_at}
+use Rattle.std.specs.Int.{bit_at}
 use Rattle.words.proofs.Fields.{put_code, bit_put}
 use Rattle.words.proofs.put_bit.Goals as goal
 

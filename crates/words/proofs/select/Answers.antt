@@ -1,7 +1,7 @@
 use Rattle.std.proofs.Common.{ℕ, ◌+◌, ap, ◌∙◌, inr, arith, rules}
 use lib.Count.{count_trailing_zeros}
 use Rattle.words.specs.Bits.{ones_under}
-use Rattle.words.proofs.Ones.{Lowest, lowest, below_more, below_zero}
+use Rattle.words.proofs.Ones.{Lowest, lowest, ones_under_more, below_zero}
 use Rattle.words.proofs.select.Goals as goal
 
 pub returns-then-rest-eq0 : goal.returns-then-rest-eq0
@@ -15,5 +15,5 @@ returns-else-rest-eq0 c =
     let low : Lowest x t = lowest x (omega arith) (search rules) in
     let a = c.without_ones-rest.ensures t in
     let b = c.without_ones-rest.ensures (t + 1) in
-    let m = below_more c.args.w t in
+    let m = ones_under_more c.args.w t in
     (low.under, omega arith, omega arith)

@@ -1,5 +1,5 @@
 use Rattle.std.proofs.Common.{◌-◌, mod-eq_of_lt, sym, subst, arith}
-use Rattle.blocks.specs.Moves.{Within}
+use Rattle.blocks.specs.Moves.{BlockWithin}
 use Rattle.blocks.specs.Writes.{WroteRemainder}
 use Rattle.filter.proofs.Writings.{MarkedBefore, entry_put, head_within, slot_within, marked_one, marked_none}
 use Rattle.filter.proofs.editing.put_entry.Goals as goal
@@ -17,11 +17,11 @@ returns-clause-put c =
     let w3 = c.set_runend.new.words in
     let w4 = c.if-entry.words in
     let w5 = c.set_occupied.new.words in
-    let h1 : Within r w1 u = omega arith in
-    let h2 : Within r w2 u = omega arith in
-    let h3 : Within r w3 u = omega arith in
-    let h4 : Within r w4 u = omega arith in
-    let h5 : Within r w5 u = omega arith in
+    let h1 : BlockWithin r w1 u = omega arith in
+    let h2 : BlockWithin r w2 u = omega arith in
+    let h3 : BlockWithin r w3 u = omega arith in
+    let h4 : BlockWithin r w4 u = omega arith in
+    let h5 : BlockWithin r w5 u = omega arith in
     let mark : MarkedBefore r w3 w4 p e.follows 0 =
     elim c.if-entry.branch [
       | then-entry w ↦ subst (λ x. MarkedBefore r w3 x p e.follows 0) (sym w.words-is)

@@ -1,6 +1,6 @@
 use Rattle.std.proofs.Common.{◌≡◌, ◌%◌, ◌^◌, cond, eqb, ap, ◌∙◌, ap₂, mod-eq_of_lt, arith}
 use Rattle.layout.specs.Rule.{quotient}
-use Rattle.blocks.specs.Moves.{Within}
+use Rattle.blocks.specs.Moves.{BlockWithin}
 use Rattle.blocks.specs.Views.{occupied_bit_in}
 use Rattle.filter.proofs.Edited.{remainder_low}
 use Rattle.filter.proofs.Writings.{head_within, slot_within}
@@ -15,8 +15,8 @@ returns c =
     let w2 = c.set_runend.new.words in
     let q = c.quotient_of.result.0 in
     let is : q ≡ quotient r c.args.p = c.quotient_of.ensures in
-    let h1 : Within r w1 s = omega arith in
-    let h2 : Within r w2 s = omega arith in
+    let h1 : BlockWithin r w1 s = omega arith in
+    let h2 : BlockWithin r w2 s = omega arith in
     let one = c.set_occupied.ensures.inside (head_within r ws q s 0 (omega (arith, c.requires.below)) (omega arith) c.requires.within) in
     let two = c.set_runend.ensures.inside (head_within r w1 s s 1 (omega arith) (omega arith) h1) in
     let three = c.set_remainder.ensures.inside (slot_within r w2 s s (omega arith) h2) in

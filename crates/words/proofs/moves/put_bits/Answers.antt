@@ -1,5 +1,5 @@
 use Rattle.std.proofs.Common.{◌+◌, ◌%◌, ◌^◌, ◌<◌, mod-lt, pow_pos, ap, ◌∙◌, arith}
-use Rattle.words.specs.Bits.{bit_at}
+use Rattle.std.specs.Int.{bit_at}
 use Rattle.words.proofs.Fields.{put_low, bit_put_in, bit_put_out, field_low}
 use Rattle.words.proofs.moves.put_bits.Goals as goal
 

@@ -1,5 +1,6 @@
 use Rattle.std.proofs.Common.{◌≡◌, ℕ, ◌+◌, ◌*◌, ◌<◌, List, get_or, Some, None, Option, sym, ap, ◌∙◌, inl, inr, ⊎_elim, arith, MatchOption}
-use Rattle.words.specs.Bits.{bit_at, ones_under, Selected}
+use Rattle.std.specs.Int.{bit_at}
+use Rattle.words.specs.Bits.{ones_under, Selected}
 use Rattle.blocks.specs.Searches.{NoOccupied, FoundOccupied}
 use Rattle.blocks.specs.Views.{word_index, occupied_bit_in}
 use Rattle.blocks.proofs.Tallies.{tally_more, occupied_bit, occupied_ones}

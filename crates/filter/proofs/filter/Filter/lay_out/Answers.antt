@@ -4,7 +4,7 @@ use Rattle.layout.specs.Format.{filter_words}
 use Rattle.layout.proofs.Bounds.{within_law}
 use Rattle.layout.proofs.Sorts.{after_sort}
 use Rattle.filter.specs.Filters.{words_of, slots_of}
-use Rattle.layout.proofs.Bags.{is_sorted}
+use Rattle.layout.proofs.Bags.{sorted_of_Sorted}
 use Rattle.filter.proofs.Promises.{few_of, over, list_facts, list_laid, list_crowds}
 use Rattle.filter.proofs.filter.Filter.lay_out.Goals as goal
 
@@ -31,7 +31,7 @@ pub invariant_of-rising : goal.invariant_of-rising
 invariant_of-rising c =
     let f = c.args.self.now in
     let o = after_sort c.args.list.now c.sort_unstable.new.self c.sort_unstable.ensures.permutation c.sort_unstable.ensures.sorted in
-    record { few = few_of f; order = is_sorted c.sort_unstable.new.self o.0; room = c.slots_needed.ensures.fits o.0 (slots_of f) c.if-slots_needed-self.false }
+    record { few = few_of f; order = sorted_of_Sorted c.sort_unstable.new.self o.0; room = c.slots_needed.ensures.fits o.0 (slots_of f) c.if-slots_needed-self.false }
 
 pub overflow_cast-self-2 : goal.overflow_cast-self-2
 overflow_cast-self-2 c =

@@ -1,6 +1,6 @@
 use Rattle.std.proofs.Common.{◌≡◌, ◌++◌, length, drop, sym, refl, arith, rules}
 use Rattle.std.proofs.lemmas.Bool.{ltb-true}
-use Rattle.layout.specs.Laws.{count}
+use Rattle.layout.specs.Laws.{copies_of}
 use Rattle.layout.proofs.Sorts.{length_remove}
 use Rattle.filter.specs.Filters.{words_of, fingerprints}
 use Rattle.filter.proofs.Promises.{quotient_small, by_layout, gone_held, gone_needs, gone_over, less_facts, taken}
@@ -13,7 +13,7 @@ pub returns-in_default : goal.returns-in_default
 returns-in_default c =
     let f = c.args.self.now in
     let p = c.args.fingerprint in
-    let none = by_layout f c.layout.result c.layout.ensures (λ r blocks es. count p es ≡ 0) c.in_default.ensures in
+    let none = by_layout f c.layout.result c.layout.ensures (λ r blocks es. copies_of p es ≡ 0) c.in_default.ensures in
     record { same = record { plan = refl; blocks = refl; lender = refl }; done = (ltb-true p _ (sym c.if-not-admits.ensures), none, refl) }
 
 pub take_entry-requires : goal.take_entry-requires

@@ -1,7 +1,7 @@
 use Rattle.std.proofs.Common.{◌≡◌, ℕ, ◌+◌, ◌<◌, false, eqb, List, Some, None, Option, sym, ap, ◌∙◌, MatchOption}
 use Rattle.layout.specs.Rule.{quotient, remainder}
 use Rattle.layout.specs.Load.{start}
-use Rattle.layout.specs.Laws.{count}
+use Rattle.layout.specs.Laws.{copies_of}
 use Rattle.blocks.specs.Views.{occupied_bit_in, remainder_in}
 use Rattle.filter.specs.Locating.{Placed}
 use Rattle.filter.specs.Slots.{InRun}
@@ -25,7 +25,7 @@ returns-then-not-occupied c =
 told : (l : Layout) (p c v : ℕ) (o : Option Place) → c ≡ quotient (bits_of l) p → v ≡ remainder (bits_of l) p
     → MatchOption o ((k : ℕ) → k < many_of l c → remainder_in (bits_of l) (words_in l) (start (many_of l) c + k) ≡ v → ⊥)
     (λ x. (x.quotient.0 ≡ c) × (x.from.0 ≡ start (many_of l) c) × (x.to.0 ≡ x.from.0 + many_of l c) × InRun (many_of l) c x.at.0 × (remainder_in (bits_of l) (words_in l) x.at.0 ≡ v))
-    → MatchOption o (count p (entries l) ≡ 0) (λ x. Placed (bits_of l) (entries l) p x.quotient.0 x.from.0 x.to.0 x.at.0)
+    → MatchOption o (copies_of p (entries l) ≡ 0) (λ x. Placed (bits_of l) (entries l) p x.quotient.0 x.from.0 x.to.0 x.at.0)
 told l p c v None ec ev h = none_found l p c v ec ev h
 told l p c v (Some x) ec ev (ed, starts, stops, in_run, same) = one_found l p c v _ _ _ _ ec ev ed starts stops in_run same
 

@@ -2,7 +2,7 @@ use Rattle.std.proofs.Common.{◌≡◌, ℕ, ◌+◌, Bool, true, false, eqb, l
 use Rattle.std.proofs.lemmas.Bool.{lt-ltb, le-ltb}
 use Rattle.layout.specs.Rule.{quotient, remainder}
 use Rattle.layout.specs.Load.{start}
-use Rattle.layout.specs.Laws.{count}
+use Rattle.layout.specs.Laws.{copies_of}
 use Rattle.blocks.specs.Views.{occupied_bit_in, remainder_in}
 use Rattle.filter.specs.Slots.{InRun}
 use Rattle.filter.proofs.Edited.{not_occupied}
@@ -14,7 +14,7 @@ use Rattle.filter.proofs.laid.Layout.has.Goals as goal
 -- what the search in the run says of the fingerprint
 told : (l : Layout) (p c v : ℕ) (r : Bool) → c ≡ quotient (bits_of l) p → v ≡ remainder (bits_of l) p
     → (r ≡ true → (s : ℕ) × InRun (many_of l) c s × (remainder_in (bits_of l) (words_in l) s ≡ v))
-    → (r ≡ false → (s : ℕ) → InRun (many_of l) c s → remainder_in (bits_of l) (words_in l) s ≡ v → ⊥) → r ≡ ltb 0 (count p (entries l))
+    → (r ≡ false → (s : ℕ) → InRun (many_of l) c s → remainder_in (bits_of l) (words_in l) s ≡ v → ⊥) → r ≡ ltb 0 (copies_of p (entries l))
 told l p c v true ec ev found lacks =
     let w = found refl in
     sym (lt-ltb 0 _ (placed_there l p c _ _ w.0 (one_found l p c v c _ _ w.0 ec ev refl refl refl w.1 w.2)))

@@ -1,10 +1,10 @@
 use Rattle.std.proofs.Common.{◌≡◌, ℕ, suc, ◌+◌, ◌*◌, ◌<◌, ◌≤◌, cond, eqb, ltb, get_or, take, sym, refl, ap, ◌∙◌, arith}
 use Rattle.std.proofs.ByRecursion.{All-get_or}
 use Rattle.std.proofs.lemmas.List.{take_all}
-use Rattle.layout.specs.Rule.{bit, quotient, remainder, laid, others, occupied_at, runend_at, remainder_at}
+use Rattle.layout.specs.Rule.{one_if, quotient, remainder, laid, others, occupied_at, runend_at, remainder_at}
 use Rattle.layout.proofs.Bounds.{empty_law}
 use Rattle.layout.proofs.Bridge.{after_more}
-use Rattle.layout.specs.Places.{after, next_of, slot_of}
+use Rattle.layout.specs.Places.{slot_after, next_of, slot_of}
 use Rattle.layout.proofs.Passes.{advance, advanced, advance_none, at_slot, at_gap, at_end, occupied_more, quotients_below, slot_below}
 use Rattle.blocks.specs.Views.{runend_in, remainder_in}
 use Rattle.blocks.proofs.Moving.{within_all}
@@ -66,7 +66,7 @@ loop-i-preserved c =
       omega (arith, after_more r ps i l),
       (λ k. e.occupied k ∙ ap (cond (eqb k (quotient r (get_or ps i 0))) 1) (inv.1 k) ∙ sym (occupied_more r ps i l k)),
       row (runend_at r (laid r 0 ps)) (runend_in r c.loop-i.words) (runend_in r c.lay_entry.new.words) _ (sym c.ends_run.ensures)
-          (λ k lo hi. at_gap r ps (λ p later. bit (others r (quotient r p) later)) 0 i k l lo hi) inv.2 e.runends,
+          (λ k lo hi. at_gap r ps (λ p later. one_if (others r (quotient r p) later)) 0 i k l lo hi) inv.2 e.runends,
       (λ k. e.offsets k ∙ inv.3 k),
       row (remainder_at r (laid r 0 ps)) (remainder_in r c.loop-i.words) (remainder_in r c.lay_entry.new.words) _
           (at_slot r ps (λ p later. remainder r p) 0 i l)
@@ -79,10 +79,10 @@ returns c =
     let ps = c.args.self.now.list.now in
     let inv = c.loop-i.invariant in
     let all : take c.loop-i.i ps ≡ ps = take_all c.loop-i.i ps c.loop-i-test.false in
-    let end : after r 0 ps ≤ c.loop-i.next = omega (arith, inv.0, ap (after r 0) all) in
+    let end : slot_after r 0 ps ≤ c.loop-i.next = omega (arith, inv.0, ap (slot_after r 0) all) in
     record {
       occupied = λ k. inv.1 k ∙ ap (λ xs. occupied_at r xs k) all;
-      runends = advanced _ _ c.loop-i.next (λ k g. at_end r ps (λ p later. bit (others r (quotient r p) later)) 0 k (omega arith)) inv.2;
+      runends = advanced _ _ c.loop-i.next (λ k g. at_end r ps (λ p later. one_if (others r (quotient r p) later)) 0 k (omega arith)) inv.2;
       offsets = inv.3;
       remainders = advanced _ _ c.loop-i.next (λ k g. at_end r ps (λ p later. remainder r p) 0 k (omega arith)) inv.4;
     }

@@ -1,7 +1,7 @@
 use Rattle.std.proofs.Common.{◌≡◌, ℕ, ◌+◌, get_or, set, is_none, sym, refl, ap, ◌∙◌, arith, w16, w32, SFits, to_z, of_z, rules}
 use Rattle.std.specs.Int.{from_bool}
 use Rattle.std.proofs.lemmas.Int.{to_z-of_z}
-use Rattle.gridtable.specs.Grids.{in_square, place_of, free_cell, value_of}
+use Rattle.gridtable.specs.Grids.{in_square, pair_place, free_cell, value_of}
 use Rattle.gridtable.proofs.Cells.{value_is, chosen}
 use Rattle.gridtable.proofs.Squares.{found_below, held_few, held_or_room, one_more, written}
 use Rattle.gridtable.proofs.grid.calls.GridTableTableKern.set.Goals as goal
@@ -27,7 +27,7 @@ invariant_of-self c =
     let table = c.args.self.now in
     let cells = table.cells.now in
     let place = c.in_ok-place.place in
-    let at = chosen (in_square table.side c.args.key) (place_of table.side c.args.key) place (sym c.in_ok-place.ensures.ok_part ∙ c.place.ensures) in
+    let at = chosen (in_square table.side c.args.key) (pair_place table.side c.args.key) place (sym c.in_ok-place.ensures.ok_part ∙ c.place.ensures) in
     let f : SFits w32 c.from.result = search rules in
     let added : c.from-added.result ≡ from_bool (is_none c.value_at.result) = search rules in
     let t = written table.side cells table.room c.args.key at.0 table.held c.args.value place (table.held + c.from-added.result) (set cells place (to_z w32 (of_z w32 c.from.result)))
@@ -40,7 +40,7 @@ returns c =
     let table = c.args.self.now in
     let cells = table.cells.now in
     let place = c.in_ok-place.place in
-    let at = chosen (in_square table.side c.args.key) (place_of table.side c.args.key) place (sym c.in_ok-place.ensures.ok_part ∙ c.place.ensures) in
+    let at = chosen (in_square table.side c.args.key) (pair_place table.side c.args.key) place (sym c.in_ok-place.ensures.ok_part ∙ c.place.ensures) in
     let f : SFits w32 c.from.result = search rules in
     let added : c.from-added.result ≡ from_bool (is_none c.value_at.result) = search rules in
     let wrote = ap (λ v. set cells place v) (to_z-of_z w32 c.from.result f ∙ c.from.ensures ∙ to_z-of_z w16 c.args.value c.ranges.value) in
