@@ -1,7 +1,7 @@
 //! Tries the published values of FNV-1a with 64 bits.
 #![tactic(auto)]
 
-use kinds::{Fingerprint, Fnv1a, Ligature, Sequence, fnv1a};
+use kinds::{Fingerprint, Fnv1a, Kind, Ligature, Sequence, fnv1a};
 use std::io;
 
 /// Texts with their published values.
@@ -19,6 +19,29 @@ const PUBLISHED: [(&str, u64); 12] = [
     ("fooba", 0xcac165afa2fef40a),
     ("foobar", 0x85944171f73967e8),
 ];
+
+/// A line with the value of each: a kind with keys of 17 bytes.
+struct Lines;
+
+impl Kind for Lines {
+    type Key = [u8; 17];
+
+    type Value = u64;
+
+    type Bytes = [u8; 17];
+
+    ghost bytes = { λ line. line };
+
+    ghost apart = { λ _ _ e. e };
+
+    fn bytes(key: &[u8; 17]) -> [u8; 17] {
+        *key
+    }
+
+    fn same(a: &[u8; 17], b: &[u8; 17]) -> bool {
+        a == b
+    }
+}
 
 /// What is said of a value that was found.
 fn verdict(found: u64, published: u64) -> &'static str {
@@ -45,8 +68,16 @@ fn try_sequence(rt: &HostRuntime) -> io::Result<()> {
     println!(rt; "sequence 26223 28514 24946 {found:016x} {said}")
 }
 
-/// Tries the texts, then the sequence.
+/// Prints the fingerprint of a line.
+fn try_line(rt: &HostRuntime) -> io::Result<()> {
+    let found = Fingerprint::<Lines>::fingerprint(&Fnv1a, b"chongo was here!\n");
+    let said = verdict(found, 0x46810940eff5f915);
+    println!(rt; "line of 17 bytes {found:016x} {said}")
+}
+
+/// Tries the texts, then the sequence, then the line.
 fn main(rt: HostRuntime) -> io::Result<()> {
     try_texts(&rt)?;
-    try_sequence(&rt)
+    try_sequence(&rt)?;
+    try_line(&rt)
 }

@@ -138,6 +138,7 @@ impl<'a> Table<Kern> for GridTable<'a> {
         ensures done { SetDone pair_bytes (grid_meaning self.old.side self.old.cells.now)
             (grid_meaning self.new.side self.new.cells.now) key value result }
         ensures undone { is_ok result ≡ false → self.new ≡ self.old }
+        // more than the trait asks: what each lent cell holds then
         ensures side { self.new.side ≡ self.old.side }
         ensures cells { self.new.cells.now
             ≡ cells_after self.old.side self.old.cells.now key value result }
@@ -158,6 +159,7 @@ impl<'a> Table<Kern> for GridTable<'a> {
         ensures done { RemoveDone pair_bytes (grid_meaning self.old.side self.old.cells.now)
             (grid_meaning self.new.side self.new.cells.now) key result }
         ensures undone { is_ok result ≡ false → self.new ≡ self.old }
+        // more than the trait asks: what each lent cell holds then
         ensures side { self.new.side ≡ self.old.side }
         ensures cells { self.new.cells.now
             ≡ cells_after self.old.side self.old.cells.now key free_cell result }
