@@ -1,13 +1,13 @@
 -- The law over a history, and one event more.
-use Rattle.std.proofs.Common.{◌≡◌, ℕ, ◌+◌, ◌<◌, ◌⊎◌, List, [], ◌∷◌, ◌++◌, length, get_or, take, is_some, Some, None, Ok, Option, sym, refl, ap, ◌∙◌, subst, inl, inr, ⊎_elim, arith, length-append}
-use Rattle.std.proofs.lemmas.List.{append_assoc, take_more, length-take-le}
+use Rattle.std.proofs.Common.{◌≡◌, ℕ, ◌+◌, ◌<◌, ◌⊎◌, List, [], ◌∷◌, ◌++◌, length, is_some, Some, None, Ok, Option, sym, refl, ap, ◌∙◌, subst, inl, inr, ⊎_elim, arith, length-append}
+use Rattle.std.proofs.lemmas.List.{append_assoc}
 use Rattle.layout.specs.Rule.{one_if}
 use Rattle.history.specs.declared.operation.Operation.{Operation}
 use Rattle.history.specs.declared.operation.Operation.TheVariants.{Put, Drop, Find}
 use Rattle.history.specs.declared.answer.Found.TheVariants as found
 use Rattle.history.specs.declared.answer.Told.TheVariants.{Stored, Dropped, Found}
 use Rattle.history.specs.Rules.{Terms, Answer, Rule}
-use Rattle.history.specs.History.{Event, History, paired, SetsKey, Untouched, Follows, times, Current, holding, Due, AnsweredByRules, Lawful}
+use Rattle.history.specs.History.{Event, History, SetsKey, Untouched, Follows, times, Current, holding, Due, AnsweredByRules, Lawful}
 use Rattle.history.proofs.Keys.{one_key, length_same, numbers_same, number_there}
 use Rattle.history.proofs.Answers.{rule_same}
 
@@ -41,13 +41,6 @@ split_push {A} (y ∷ h) e (b ∷ bs) x after q = by_cases (split_push h e bs x 
     by_cases : ((bs ≡ h) × (x ≡ e)) ⊎ Earlier h e bs x after → ((b ∷ bs ≡ y ∷ h) × (x ≡ e)) ⊎ Earlier (y ∷ h) e (b ∷ bs) x after
     by_cases (inl (p, r)) = inl (ap (λ l. b ∷ l) p ∙ ap (λ z. z ∷ h) (sym same), r)
     by_cases (inr p) = inr (record { rest = p.rest; there = ap (λ l. y ∷ l) p.there ∙ ap (λ z. z ∷ (bs ++ x ∷ p.rest)) same; then = p.then })
-
-pub paired_push : {A B : Type 0} (xs : List A) (ys : List B) (x : A) (y : B) → length xs ≡ length ys → paired (xs ++ x ∷ []) (ys ++ y ∷ []) ≡ paired xs ys ++ (x, y) ∷ []
-unfolding paired
-paired_push [] [] x y h = refl
-paired_push [] (b ∷ ys) x y h = absurd (omega arith)
-paired_push (a ∷ xs) [] x y h = absurd (omega arith)
-paired_push (a ∷ xs) (b ∷ ys) x y h = ap (λ l. (a, b) ∷ l) (paired_push xs ys x y (omega arith))
 
 -- ---- what one event says
 
@@ -168,18 +161,3 @@ module _ {K V : Type 0} (t : Terms K) (opening : K → Option V) where
       by_cases (inl (p, q)) =
           subst (λ b. AnsweredByRules t opening b o' a') (sym p) (subst (λ (x : Event K V). AnsweredByRules t opening h x.0 x.1) (sym q) new)
       by_cases (inr p) = old before p.rest o' a' p.there
-
--- a turn of the loop over the operations
-module _ {K V : Type 0} (ops : List (Operation K V)) (i : ℕ) (o : Operation K V) (xs ys : List (Answer V)) (a : Answer V)
-    (within : i < length ops) (read : o ≡ get_or ops i o) (len : length xs ≡ i) (pushed : ys ≡ xs ++ a ∷ []) where
-  pub one_more : paired (take (i + 1) ops) ys ≡ paired (take i ops) xs ++ (o, a) ∷ []
-  one_more =
-      ap (λ l. paired (take (i + 1) ops) l) pushed
-      ∙ ap (λ l. paired l (xs ++ a ∷ [])) (take_more ops i o within ∙ ap (λ u. take i ops ++ u ∷ []) (sym read))
-      ∙ paired_push (take i ops) xs o a (length-take-le i ops (omega arith) ∙ sym len)
-
--- no operation yet
-pub paired_none : {A B : Type 0} (xs : List A) (ys : List B) → xs ≡ [] → paired xs ys ≡ []
-unfolding paired
-paired_none [] ys e = refl
-paired_none (x ∷ xs) ys e = cc

@@ -37,12 +37,6 @@ drop_event k given = (Drop k, answer_of (λ _. Dropped) given)
 abbrev pub find_event : {K V : Type 0} → K → FindAnswer V → Event K V
 find_event k given = (Find k, Ok (Found given))
 
--- operations with their answers, in order
-unfoldable pub paired : {A B : Type 0} → List A → List B → List (A × B)
-paired [] ys = []
-paired (x ∷ xs) [] = []
-paired (x ∷ xs) (y ∷ ys) = (x, y) ∷ paired xs ys
-
 -- An accepted put of key k gives it that value, an accepted drop none. No other event says anything of k.
 abbrev pub SetsKey : {K V : Type 0} → Event K V → K → Option V → Type 0
 SetsKey (Put q w, Ok (Stored s)) k v = (q ≡ k) × (v ≡ Some w)
