@@ -14,7 +14,7 @@ use Rattle.book.specs.Reached.{State}
 use Rattle.replay.specs.Replays.{call_of, Replayed}
 
 -- What holds of a book that held nothing and performed this history, of how many keys it then holds, and of the words of its filter's blocks.
-pub record BookRanFromNothing {K V : Type 0} (t : Terms K) (blocks : ℕ) (h : History K V) (held : ℕ) (words : List ℕ) : Type 0 where
+pub record BeganEmpty {K V : Type 0} (t : Terms K) (blocks : ℕ) (h : History K V) (held : ℕ) (words : List ℕ) : Type 0 where
   -- every answer is the one due
   pub law : Law t nothing h
   -- each key has what its last accepted put or drop gave
@@ -32,7 +32,7 @@ pub record BookPerformed {K V : Type 0} (t : Terms K) (blocks : ℕ) (before aft
   pub history : History K V
   pub asked : map (λ e. e.0) history ≡ operations before
   pub answered : after ≡ map call_of history
-  pub begun : BookRanFromNothing t blocks history held words
+  pub begun : BeganEmpty t blocks history held words
 
 -- Calls were performed on a book over a table that was m and became n, with a filter over words that became words'.
 pub record PerformedOn {K V : Type 0} (bytes : K → List ℕ) (number : K → ℕ) (plan : Plan) (words words' : List ℕ) (m n : Meaning K V) (before after : List (Call K V)) : Type 0 where

@@ -16,7 +16,7 @@ use Rattle.console.specs.declared.fault.Fault.TheVariants.{Memory, Stream, Argum
 use Rattle.console.specs.declared.request.Request.{Request}
 use Rattle.history.specs.Beginnings.{list_terms}
 use Rattle.replay.specs.Replays.{call_of}
-use Rattle.kernwords.specs.Books.{BookRanFromNothing}
+use Rattle.kernwords.specs.Books.{BeganEmpty}
 use Rattle.kernwords.specs.Sizes.{KernSized, LigatureSized}
 use Rattle.kernwords.specs.declared.sizes.Size.{Size}
 use Rattle.kernwords.specs.declared.books.BookWords.{BookWords}
@@ -35,7 +35,7 @@ report_text r = flat_map (λ l. refused_line_text l ++ (10 ∷ [])) (vec_items r
 -- a book of that size, over a list, began empty and performed this history, and is printed so
 pub record BookReported {K V : Type 0} (bytes : K → List ℕ) (number : K → ℕ) (size : Size) (h : History K V) (b : BookWords) : Type 0 where
   pub sized : b.size ≡ size
-  pub begun : BookRanFromNothing (list_terms bytes number size.plan (min size.blocks 16640) (min size.records 65536)) (min size.blocks 16640) h b.held (vec_items b.words)
+  pub begun : BeganEmpty (list_terms bytes number size.plan (min size.blocks 16640) (min size.records 65536)) (min size.blocks 16640) h b.held (vec_items b.words)
 
 -- What a report says of a text of edits, with a kerning book of that size.
 pub record Reported (size : Size) (text : List ℕ) (r : Report) : Type 0 where
