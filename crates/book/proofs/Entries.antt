@@ -22,6 +22,12 @@ entry_went f g p n (Ok done) is ok a =
     subst (λ p. (fingerprints g ≡ without_one p (fingerprints f)) × (words_of g ≡ laid_over f.plan.r f.blocks (without_one p (fingerprints f)) (words_of f))) is (a.2, a.3)
 entry_went f g p n (Err e) is ok a = absurd (true≢false ok)
 
+-- and it was there
+pub entry_was : (f g : Filter) (p n : ℕ) (r : Result (Unit {0}) FilterFault) → p ≡ cut_to f.plan n → true ≡ is_ok r → Taken f g p r
+    → 0 < copies_of (cut_to f.plan n) (fingerprints f)
+entry_was f g p n (Ok done) is ok a = subst (λ p. 0 < copies_of p (fingerprints f)) is a.1
+entry_was f g p n (Err e) is ok a = absurd (true≢false ok)
+
 -- one is there
 pub entry_there : (f : Filter) (p n : ℕ) (there : Bool) → p ≡ cut_to f.plan n → SaysWhether f p (Ok there) → there ≡ true
     → 0 < copies_of (cut_to f.plan n) (fingerprints f)
