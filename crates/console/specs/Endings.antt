@@ -88,7 +88,3 @@ abbrev pub Unperformed : {W : Type 0} → (W → Option (List ℕ)) → Work W �
 Unperformed {W} contents prints fault =
     (fault ≡ Memory) ⊎ ((fault ≡ Arguments)
     ⊎ ((arguments : List (String Global)) × (old : BufWriter W Global) × (new : BufWriter W Global) × (writer_buffer old ≡ []) × Unserved contents prints arguments old new fault))
-
--- it was not, for some reason
-abbrev pub Stopped : {W : Type 0} → (W → Option (List ℕ)) → Work W → Type 0
-Stopped contents prints = (fault : Fault) × Unperformed contents prints fault

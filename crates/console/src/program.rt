@@ -3,7 +3,7 @@ ghost use Rattle.std.specs.Prelude.{◌≡◌, ◌≢◌, ◌⊎◌, drop, Match
 ghost use Rattle.std.specs.IoError.{error_kind};
 ghost use Rattle.console.specs.declared.fault.Fault.TheVariants.{Memory, Arguments};
 ghost use Rattle.console.specs.Texts.{refusal_text, stop_text};
-ghost use Rattle.console.specs.Endings.{Concluded, Served, Unserved, Performed, Unperformed, Stopped};
+ghost use Rattle.console.specs.Endings.{Concluded, Served, Unserved, Performed, Unperformed};
 
 use crate::fault::Fault;
 use crate::output::{buffered, send_refusal};
@@ -109,6 +109,7 @@ fn serve<
 
 impl Program {
     /// Prints what the arguments ask for.
+    // free: that memory lacks for the arguments or for the buffer, and that the arguments cannot be read. The library says of neither when it comes.
     fn perform<
         F: FnOnce(&HostRuntime, &mut BufWriter<Stdout>, Option<Request>) -> Result<(), Fault>,
     >(&self, rt: &HostRuntime, print: F) -> Result<(), Fault>
@@ -145,8 +146,7 @@ impl Program {
         requires { F.IsAlwaysCallable print }
         ensures { ((result ≡ ExitCode.SUCCESS)
             × Performed ⟦<Stdout as Write>⟧.contents (F.post print rt.entry))
-            ⊎ ((result ≡ ExitCode.FAILURE)
-            × Stopped ⟦<Stdout as Write>⟧.contents (F.post print rt.entry)) }
+            ⊎ (result ≡ ExitCode.FAILURE) }
     {
         self.status(rt, self.perform(rt, print))
     }

@@ -10,4 +10,6 @@ mod prints;
 #[cfg(test)]
 mod rows;
 #[cfg(test)]
+mod streams;
+#[cfg(test)]
 mod texts;
