@@ -31,7 +31,8 @@ fn print_books<R: Read, W: Write>(
     out: &mut W,
     request: Option<Request>,
 ) -> Result<(), Fault>
-    ensures { PrintDone request (R.remaining input.old) (R.remaining input.new) (W.contents out.old) (W.contents out.new) result }
+    ensures { PrintDone request (R.remaining input.old) (R.remaining input.new)
+        (W.contents out.old) (W.contents out.new) result }
 {
     let kern = kern_size(request)?;
     let text = read_text(heap, input)?;
