@@ -13,7 +13,6 @@ use Rattle.filter.specs.Filters.{SameFilter, words_of, fingerprints, laid_over, 
 use Rattle.filter.specs.declared.filter.Filter.{Filter}
 use Rattle.filter.proofs.Held.{words_length}
 use Rattle.tables.specs.Meaning.{Meaning, SameFrame}
-use Rattle.tables.proofs.Changes.{same_frame}
 use Rattle.history.proofs.Entries.{Alike, alike_cons, alike_sorted, words_alike, insert_entries, remove_entries}
 use Rattle.book.specs.Standings.{Standing, Steady}
 
@@ -143,6 +142,3 @@ steady_then r s t a b =
       owners = b.owners ∙ a.owners;
       filter = same_then r.filter s.filter t.filter a.filter b.filter;
     }
-
-pub steady_self : {K V B : Type 0} (s : Standing K V B) → Steady s s
-steady_self s = record { frame = same_frame s.table; lender = refl; beyond = refl; number = refl; owners = refl; filter = same_self s.filter }

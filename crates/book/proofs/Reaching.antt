@@ -3,7 +3,7 @@ use Rattle.std.proofs.Common.{◌≡◌, ℕ, List, [], ◌∷◌, ◌++◌, map
 use Rattle.layout.specs.Rule.{Roomy}
 use Rattle.layout.proofs.Bounds.{empty_law}
 use Rattle.filter.specs.Cuts.{cut_to}
-use Rattle.filter.specs.Filters.{SameFilter, fingerprints, slots_of}
+use Rattle.filter.specs.Filters.{SameFilter, slots_of}
 use Rattle.filter.specs.declared.filter.Filter.{Filter}
 use Rattle.tables.specs.Rows.{keys_of, Apart}
 use Rattle.tables.specs.Meaning.{Meaning, SameFrame, value_in}

@@ -2,17 +2,16 @@
 use Rattle.std.proofs.Common.{◌≡◌, ℕ, ◌*◌, Bool, true, false, List, ◌∷◌, ◌++◌, map, drop, Some, None, Ok, Err, Option, sym, refl, ap, ◌∙◌, subst, ⊎_elim}
 use Rattle.std.proofs.lemmas.Bool.{cond-true, cond-false, cases_Bool}
 use Rattle.kinds.specs.Keys.{same_key}
-use Rattle.layout.specs.Rule.{sorted}
 use Rattle.layout.specs.Laws.{copies_of}
 use Rattle.filter.specs.Cuts.{cut_to}
 use Rattle.filter.specs.declared.plan.Plan.{Plan}
 use Rattle.filter.specs.Meaning.{size_of}
-use Rattle.filter.specs.Filters.{SameFilter, words_of, fingerprints, laid_over}
+use Rattle.filter.specs.Filters.{SameFilter, words_of, laid_over}
 use Rattle.filter.specs.declared.filter.Filter.{Filter}
 use Rattle.tables.specs.Rows.{keys_of, Apart}
 use Rattle.tables.specs.Meaning.{Meaning, SameFrame, value_in, Revalued}
 use Rattle.history.specs.Rules.{Terms, Answer, Rule}
-use Rattle.history.specs.History.{History, Current, holding, Lawful}
+use Rattle.history.specs.History.{Current, holding}
 use Rattle.history.specs.declared.operation.Operation.{Operation}
 use Rattle.history.specs.declared.operation.Operation.TheVariants.{Put, Drop, Find}
 use Rattle.history.specs.declared.answer.Stored.TheVariants.{Kept, Changed}
@@ -24,8 +23,7 @@ use Rattle.history.proofs.Rolls.{length_keys, current_keys, numbers_changed, num
 use Rattle.history.proofs.Answers.{rule_same}
 use Rattle.history.proofs.Histories.{Step}
 use Rattle.book.specs.Books.{terms_of, held_by, fingerprints_of, OperationDone}
-use Rattle.tables.proofs.Changes.{same_frame}
-use Rattle.book.proofs.Holding.{Holds, holds_alike, holds_more, holds_less, holds_own, holds_then, entries_alike}
+use Rattle.book.proofs.Holding.{Holds, holds_alike, holds_more, holds_less, entries_alike}
 
 module _ {K V : Type 0} (bytes : K → List ℕ) (apart : (a b : K) → bytes a ≡ bytes b → a ≡ b) (number : K → ℕ) where
   -- the terms stay
@@ -103,20 +101,3 @@ module _ {K V : Type 0} (bytes : K → List ℕ) (apart : (a b : K) → bytes a 
       ∙ ap (λ l. l ++ drop (size_of f.plan.r f.blocks) (words_of f))
       (words_alike f.plan.r f.blocks (fingerprints_of number f n) (map (λ k. cut_to f.plan (number k)) ks)
       (numbers_same bytes apart (λ k. cut_to f.plan (number k)) (keys_of n.rows) ks (λ k. current_keys bytes apart n.rows own k ∙ sym (c k))))
-
--- the fingerprints and the terms are those of the filter as it was before the opening
-module _ {K V : Type 0} (bytes : K → List ℕ) (apart : (a b : K) → bytes a ≡ bytes b → a ≡ b) (number : K → ℕ) (f e : Filter) (s : SameFilter f e) where
-  marks_same : (x : Meaning K V) → fingerprints_of number e x ≡ fingerprints_of number f x
-  marks_same x = ap (λ (plan : Plan). map (λ k. cut_to plan (number k)) (keys_of x.rows)) s.plan
-
-  -- just opened
-  pub opened_holds : (m : Meaning K V) → fingerprints e ≡ sorted (fingerprints_of number f m) → Holds e e (fingerprints_of number e m)
-  opened_holds m q = holds_own e (fingerprints_of number e m) (q ∙ ap sorted (sym (marks_same m)))
-
-  pub back_holds : (g : Filter) (m n : Meaning K V) → fingerprints e ≡ sorted (fingerprints_of number f m) → words_of e ≡ laid_over f.plan.r f.blocks (fingerprints_of number f m) (words_of f)
-      → Holds e g (fingerprints_of number e n) → Holds f g (fingerprints_of number f n)
-  back_holds g m n q w d =
-      subst (λ ps. Holds f g ps) (marks_same n) (holds_then f e g (fingerprints_of number f m) (fingerprints_of number e n) (record { same = s; entries = q; words = w }) d)
-
-  pub back_lawful : (m : Meaning K V) (h : History K V) → Lawful (terms_of bytes number e m) (value_in bytes m) h → Lawful (terms_of bytes number f m) (value_in bytes m) h
-  back_lawful m h l = subst (λ (t : Terms K). Lawful t (value_in bytes m) h) (terms_same bytes apart number f e m m s (same_frame m)) l

@@ -1,5 +1,5 @@
 -- The law of a book over whole histories: what it answers and what it holds, by the operations and their answers alone.
-use Rattle.std.specs.Prelude.{◌≡◌, ℕ, ◌+◌, List, [], ◌∷◌, ◌++◌, map, length, is_some, Some, None, Ok, Err, Option, Result}
+use Rattle.std.specs.Prelude.{◌≡◌, ℕ, List, ◌∷◌, ◌++◌, map, length, is_some, Some, None, Ok, Err, Option, Result}
 use Rattle.kinds.specs.Keys.{same_key}
 use Rattle.layout.specs.Rule.{one_if}
 use Rattle.std.specs.List.{count_by}

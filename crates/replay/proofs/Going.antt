@@ -16,9 +16,6 @@ pub record Going {K V : Type 0} (bytes : K → List ℕ) (start now : State K V)
   pub reached : Reached bytes start now history
 
 module _ {K V : Type 0} (bytes : K → List ℕ) (start : State K V) (before : List (Call K V)) where
-  pub going_none : (now : State K V) → Reached bytes start now [] → Going bytes start now before before 0
-  going_none now r = record { history = []; count = refl; operations = refl; answers = refl; reached = r }
-
   module _ (now : State K V) (calls : List (Call K V)) (i : ℕ) (g : Going bytes start now before calls i) where
     -- one call more
     pub going_on : (now' : State K V) (d : Call K V) (a : Answer V) → i < length before → Reached bytes start now' (g.history ++ ((get_or calls i d).operation, a) ∷ [])
