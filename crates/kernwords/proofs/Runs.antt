@@ -1,5 +1,5 @@
 -- From the law of a replay to what a book over fresh words did.
-use Rattle.std.proofs.Common.{◌≡◌, ℕ, ◌+◌, ◌<◌, ◌≤◌, List, [], ◌∷◌, map, length, take, drop, Option, sym, ap, ◌∙◌, subst, subst₂, mul-div_cancel, arith}
+use Rattle.std.proofs.Common.{◌≡◌, ℕ, ◌+◌, ◌<◌, ◌≤◌, List, map, length, take, drop, Option, sym, ap, ◌∙◌, subst, subst₂, mul-div_cancel, arith}
 use Rattle.layout.specs.Format.{filter_words, block_count}
 use Rattle.filter.specs.Cuts.{cut_to}
 use Rattle.filter.specs.Meaning.{size_of}
@@ -16,7 +16,6 @@ use Rattle.history.specs.Law.{Law}
 use Rattle.history.specs.declared.call.Call.{Call}
 use Rattle.history.proofs.Rolls.{length_keys}
 use Rattle.book.specs.Books.{terms_of}
-use Rattle.book.specs.Reached.{State}
 use Rattle.kernwords.specs.Books.{PerformedOn, BookPerformed}
 
 -- what a book over an empty list did
