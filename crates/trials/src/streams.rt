@@ -105,7 +105,9 @@ fn a_text_is_read_byte_by_byte(rt: HostRuntime) -> Result<(), Fail> {
         bytes: vec![in rt.alloc(); b'c', b'b', b'a']?,
         calls: 100,
     };
-    assert!(rt; matches!(read_text(rt.alloc(), &mut input), Ok(text) if text.as_slice() == b"abc".as_slice()));
+    assert!(rt;
+        matches!(read_text(rt.alloc(), &mut input), Ok(text) if text.as_slice() == b"abc".as_slice())
+    );
     input.bytes.push(b'd')?;
     input.calls = 1;
     assert!(rt; matches!(read_text(rt.alloc(), &mut input), Err(Fault::Stream)));
