@@ -21,8 +21,8 @@ pub fn buffered<W: Write + Drop>(heap: Global, to: W) -> Result<BufWriter<W>, Fa
 }
 
 /// Writes a text, or a beginning of it where the stream fails. A write that a signal interrupts is tried again.
-// free: that a stream fails. The library says of no write when it is an error, nor of which kind, so whatever kind that is, it is the stream that fails.
-// kept: the library's `write_all` says nothing of what was written where it is an error; a single `write` does. As there, 2^64 - 1 tries are the most.
+// That a stream fails is left open: the library says of no write when it is an error, nor of which kind, so whatever kind that is, it is the stream that fails.
+// The library's `write_all` says nothing of what was written where it is an error; a single `write` does. As there, 2^64 - 1 tries are the most.
 pub fn send<W: Write>(out: &mut W, text: &[u8]) -> Result<(), Fault>
     ensures { Sent (W.contents out.old) (W.contents out.new) text.now result }
 {

@@ -80,7 +80,7 @@ fn words_of(arguments: &[String]) -> &[String]
 }
 
 /// Ends what a program prints: a refusal is its last line, and nothing is left in the buffer.
-// free: what a buffer that is dropped still writes. A drop has no contract, so of a program that stops it is said what the writer and its buffer had.
+// What a buffer that is dropped still writes is left open: a drop has no contract, so of a program that stops it is said what the writer and its buffer had.
 fn conclude<W: Write + Drop>(out: &mut BufWriter<W>, done: Result<(), Fault>) -> Result<(), Fault>
     ensures { Concluded W.contents done out.old out.new result }
 {
@@ -109,7 +109,7 @@ fn serve<
 
 impl Program {
     /// Prints what the arguments ask for.
-    // free: that memory lacks for the arguments or for the buffer, and that the arguments cannot be read. The library says of neither when it comes.
+    // That memory lacks for the arguments or for the buffer, and that the arguments cannot be read, is left open: the library says of neither when it comes.
     fn perform<
         F: FnOnce(&HostRuntime, &mut BufWriter<Stdout>, Option<Request>) -> Result<(), Fault>,
     >(&self, rt: &HostRuntime, print: F) -> Result<(), Fault>

@@ -11,8 +11,8 @@ use std::io::{ErrorKind, Read};
 const CHUNK: usize = 16_384;
 
 /// All that an input has left. A read that a signal interrupts is tried again.
-// free: that an input fails. The library says of no read when it is an error, nor of which kind, so whatever kind that is, it is the stream that fails.
-// kept: the library's `read_to_end` may want memory itself, and does not say which of the two its error is. As there, 2^64 - 1 tries are the most.
+// That an input fails is left open: the library says of no read when it is an error, nor of which kind, so whatever kind that is, it is the stream that fails.
+// The library's `read_to_end` may want memory itself, and does not say which of the two its error is. As there, 2^64 - 1 tries are the most.
 pub fn read_text<R: Read>(heap: Global, input: &mut R) -> Result<Vec<u8>, Fault>
     ensures text { IfOk result
         (λ text. IfSome (R.remaining input.old) (λ bytes. text.items ≡ bytes)) }
