@@ -22,11 +22,6 @@ pub ones_none : (w : ℕ) → ones_under w 0 ≡ 0
 unfolding ones_under
 ones_none w = refl
 
--- no more ones than places
-pub ones_few : (w i : ℕ) → ones_under w i ≤ i
-ones_few w zero = omega (arith, ones_none w)
-ones_few w (suc i) = omega (arith, ones_step w i, ones_few w i, bit_lt w i)
-
 module _ (r : ℕ) (ws : List ℕ) (m : ℕ) where
   -- the row of the m-th words of the blocks: bit k % 64 of word m of block k / 64
   abbrev pub row_at : ℕ → ℕ

@@ -54,10 +54,12 @@ impl Blocks<'_> {
         for block in from.0 / 64..BLOCKS {
             let w = *self.words.get(word_of(self.width, block, Part::Runends))?;
             let rest = ones_from(w, place);
-            if let Some(i) = select(rest, left) {
+            let here = rank(rest, 63);
+            if left <= here {
+                let i = select(rest, left)?;
                 return Some(Slot(64 * block + i));
             }
-            left -= rank(rest, 63);
+            left -= here;
             place = 0;
         }
         None

@@ -6,4 +6,3 @@ pub mod Writings
 pub mod Edited
 pub mod Slotting
 pub mod Sounds
-pub mod Ranges

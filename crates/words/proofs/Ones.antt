@@ -20,6 +20,12 @@ pub ones_under_more : (n m : ℕ) → (ones_under n (m + 1) ≡ ones_under n m +
 unfolding ones_under
 ones_under_more n m = (ap (ones_under n) (add-one m), mod-lt (n / 2 ^ m) (pow_pos 1))
 
+-- no more ones than places
+pub ones_few : (w i : ℕ) → ones_under w i ≤ i
+unfolding ones_under
+ones_few w zero = omega arith
+ones_few w (suc i) = omega (arith, ones_under_more w i, ones_few w i)
+
 -- the count by places is the library's count of the low bits
 pub below_is : (n m : ℕ) → ones_under n m ≡ ones (n % 2 ^ m)
 unfolding ones_under

@@ -114,6 +114,10 @@ pub fn select(w: u64, k: u32) -> Option<u32>
     if k == 0 {
         return None;
     }
+    // no word has more ones
+    if k > 64 {
+        return None;
+    }
     let rest = without_ones(w, k - 1);
     if rest == 0 {
         None

@@ -75,7 +75,8 @@ impl Layout<'_> {
         ensures not { result ≡ false → (s : ℕ) → InRun (many_of self.now) c.0 s → remainders_of self.now s ≢ rem }
     {
         let Run { from, to } = self.run_of(c);
-        (from.0..to.0).any(|s| self.blocks.remainder(Slot(s)) == rem)
+        let first = self.seek(from, to, rem);
+        first.0 < to.0 && self.blocks.remainder(first) == rem
     }
 
     /// Whether an entry has the fingerprint.

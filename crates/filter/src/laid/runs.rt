@@ -120,16 +120,22 @@ impl Layout<'_> {
             ((x : ℕ) → stop.0 ≤ x → x < slots_in self.now → 0 < load (many_of self.now) x + many_of self.now x)
             (λ u. FirstFree (many_of self.now) stop.0 u.0 × (u.0 < slots_in self.now)) }
     {
-        // kept: `x` jumps to where the runs of all quotients up to it stop, so no range counts it, and `successors` would count them twice
+        // kept: `x` jumps to where the runs of all quotients up to it stop, so no range counts it, and `successors` would count them twice;
+        // in a later block it goes by that block's offset, and reads no words in between
         let mut past = c.0;
         let mut x = stop.0;
         while x < 64 * self.count {
-            let more = self.blocks.occupied_after(Quotient(past), Quotient(x));
-            if more == 0 {
+            let next = if past / 64 < x / 64 {
+                self.stop_of(Quotient(x))
+            } else {
+                let more = self.blocks.occupied_after(Quotient(past), Quotient(x));
+                self.after_runends(Slot(x), more)
+            };
+            if next.0 == x {
                 return Some(Slot(x));
             }
             past = x;
-            x = self.after_runends(Slot(x), more).0;
+            x = next.0;
         }
         None
     }
@@ -146,12 +152,17 @@ impl Layout<'_> {
         let mut past = c.0;
         let mut x = stop.0;
         while x < 64 * self.count {
-            let more = self.blocks.occupied_after(Quotient(past), Quotient(x - 1));
-            if more == 0 {
+            let next = if past / 64 < x / 64 {
+                self.start_of(Quotient(x))
+            } else {
+                let more = self.blocks.occupied_after(Quotient(past), Quotient(x - 1));
+                self.after_runends(Slot(x), more)
+            };
+            if next.0 == x {
                 return Slot(x);
             }
             past = x - 1;
-            x = self.after_runends(Slot(x), more).0;
+            x = next.0;
         }
         Slot(x)
     }

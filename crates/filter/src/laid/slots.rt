@@ -1,6 +1,6 @@
 //! Reads slots, each from the head of a block near it.
-ghost use Rattle.std.specs.Prelude.{◌≡◌, ◌+◌, ◌*◌, IfOk, MatchOption};
-ghost use Rattle.layout.specs.Load.{load};
+ghost use Rattle.std.specs.Prelude.{◌≡◌, ◌+◌, ◌*◌, ◌^◌, ◌<◌, IfOk, MatchOption};
+ghost use Rattle.layout.specs.Load.{load, start};
 ghost use Rattle.filter.specs.Slots.{HomeBlock, InRun, slot_shown};
 ghost use Rattle.filter.specs.Layouts.{bits_of, entries, many_of};
 
@@ -10,12 +10,20 @@ use blocks::{Quotient, Slot};
 use std::alloc::{AllocError, Global};
 
 impl Layout<'_> {
+    /// The slot at which the runs of block `a` begin: as many past its first one as its offset says.
+    fn head_of(&self, a: u32) -> Slot
+        requires { 64 * a < 2 ^ 32 }
+        ensures { result.0 ≡ start (many_of self.now) (64 * a) }
+    {
+        Slot(64 * a + self.blocks.offset(a) as u32)
+    }
+
     /// The block among whose runs slot `s` lies: the last one whose runs begin at or before it.
     fn home_block(&self, s: Slot) -> u32
         ensures { HomeBlock (many_of self.now) s.0 result }
     {
         for a in (0..s.0 / 64 + 1).rev() {
-            if self.start_of(Quotient(64 * a)).0 <= s.0 {
+            if self.head_of(a).0 <= s.0 {
                 return a;
             }
         }
@@ -32,7 +40,7 @@ impl Layout<'_> {
             return None;
         }
         let a = self.home_block(s);
-        let head = self.start_of(Quotient(64 * a));
+        let head = self.head_of(a);
         let before = self.blocks.runends_between(head, s);
         self.blocks.nth_occupied(a, before + 1)
     }

@@ -1,7 +1,7 @@
 use Rattle.std.proofs.Common.{ℕ, ◌+◌, ap, ◌∙◌, inr, arith, rules}
 use lib.Count.{count_trailing_zeros}
 use Rattle.words.specs.Bits.{ones_under}
-use Rattle.words.proofs.Ones.{Lowest, lowest, ones_under_more, below_zero}
+use Rattle.words.proofs.Ones.{Lowest, lowest, ones_few, ones_under_more, below_zero}
 use Rattle.words.proofs.select.Goals as goal
 
 pub returns-then-rest-eq0 : goal.returns-then-rest-eq0
@@ -17,3 +17,6 @@ returns-else-rest-eq0 c =
     let b = c.without_ones-rest.ensures (t + 1) in
     let m = ones_under_more c.args.w t in
     (low.under, omega arith, omega arith)
+
+pub returns-then-k-gt64 : goal.returns-then-k-gt64
+returns-then-k-gt64 c = inr (omega (arith, ones_few c.args.w 64))

@@ -2,7 +2,8 @@ use Rattle.std.proofs.Common.{◌≡◌, ◌+◌, ◌*◌, ◌/◌, ◌%◌, min
 use Rattle.words.specs.Bits.{ones_under}
 use Rattle.layout.specs.Load.{tally}
 use Rattle.blocks.specs.Views.{occupied_bit_in}
-use Rattle.blocks.proofs.Tallies.{ones_few, occupied_ones}
+use Rattle.words.proofs.Ones.{ones_few}
+use Rattle.blocks.proofs.Tallies.{occupied_ones}
 use Rattle.blocks.proofs.reading.Blocks.occupied_upto.Goals as goal
 
 pub returns : goal.returns

@@ -19,14 +19,18 @@ returns-in_err-w c =
     let past : length ws ≤ word_index r b 1 = grind (arith, rules, c.in_err-w.ensures.lookup.0, c.word_of.ensures) in
     rw c.from_residual.ensures (inr (λ x _. omega (arith, c.loop-block.invariant.2, c.loop-block.invariant.3, ap (tally (runend_in r ws)) a, runend_most r ws b (64 * b + i) x past (omega arith))))
 
-pub returns-in-Some : goal.returns-in-Some
-returns-in-Some c =
+pub returns-in_err-i : goal.returns-in_err-i
+returns-in_err-i c = ⊎_elim (λ (e : c.loop-block.left ≡ 0). absurd (omega (arith, c.loop-block.invariant.2)))
+    (λ (l : ones_under c.ones_from-rest.result 64 < c.loop-block.left). absurd (omega (arith, l, c.rank-here.ensures))) c.in_err-i.ensures
+
+pub returns-then-left-here : goal.returns-then-left-here
+returns-then-left-here c =
     let r = c.args.self.now.width.bits in
     let ws = c.args.self.now.words.now in
     let from = c.args.from.0 in
     let w = c.in_ok-w.field-0.now in
     let a : 64 * (from / 64) + from % 64 ≡ from = omega arith in
-    let h = found r ws c.loop-block.block c.loop-block.place c.loop-block.left c.in-Some.i w c.ones_from-rest.result (search rules) (omega arith) c.ones_from-rest.ensures c.in-Some.ensures in
+    let h = found r ws c.loop-block.block c.loop-block.place c.loop-block.left c.in_ok-i.i w c.ones_from-rest.result (search rules) (omega arith) c.ones_from-rest.ensures c.in_ok-i.ensures in
     record {
       from = omega (arith, h.from);
       one = h.one;
@@ -43,15 +47,13 @@ loop-block-preserved c =
     let e : w ≡ get_or ws (word_index r b 1) 0 = search rules in
     let next : 64 * (b + 1) + 0 ≡ 64 * b + 64 = omega arith in
     let mono = ones_mono w i 64 (omega arith) in
-    let all : c.rank.result ≡ ones_under w 64 - ones_under w i = c.rank.ensures ∙ c.ones_from-rest.ensures 64 in
-    let few : c.rank.result < c.loop-block.left = ⊎_elim (λ l. omega arith) (λ l. omega (arith, l, c.rank.ensures)) c.in_default.ensures in (
+    let all : c.rank-here.result ≡ ones_under w 64 - ones_under w i = c.rank-here.ensures ∙ c.ones_from-rest.ensures 64 in (
       omega arith,
       omega arith,
       omega arith,
       omega (
         arith,
         all,
-        few,
         ap (tally (runend_in r ws)) next,
         runend_ones r ws b 64 (omega arith),
         runend_ones r ws b i (omega arith),

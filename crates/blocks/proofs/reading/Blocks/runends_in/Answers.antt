@@ -1,6 +1,7 @@
 use Rattle.std.proofs.Common.{◌≡◌, min, ap, ◌∙◌, ap₂, arith}
 use Rattle.words.specs.Bits.{ones_under}
-use Rattle.blocks.proofs.Tallies.{ones_few, runend_ones}
+use Rattle.words.proofs.Ones.{ones_few}
+use Rattle.blocks.proofs.Tallies.{runend_ones}
 use Rattle.blocks.proofs.reading.Blocks.runends_in.Goals as goal
 
 pub returns : goal.returns

@@ -1,30 +1,37 @@
-use Rattle.std.proofs.Common.{◌≡◌, ◌+◌, ◌<◌, ◌≤◌, ⊎_elim, refl, arith}
+use Rattle.std.proofs.Common.{◌≡◌, ◌+◌, ◌<◌, ◌≤◌, ap, ◌∙◌, ⊎_elim, arith}
 use Rattle.std.proofs.lemmas.Bool.{cases_lt}
 use Rattle.layout.specs.Load.{start}
-use Rattle.blocks.specs.Searches.{AfterRunends}
 use Rattle.filter.proofs.Locatings.{used_upto, stop_there, stop_after_stop}
 use Rattle.filter.proofs.Sounds.{sound_of}
-use Rattle.filter.specs.Layouts.{bits_of, words_in, many_of}
+use Rattle.filter.specs.Layouts.{many_of}
 use Rattle.filter.proofs.laid.Layout.first_free.Goals as goal
+use Rattle.filter.proofs.laid.Layout.first_free.Goals.{then-past-x, else-past-x}
 
-pub returns-then-more-eq0 : goal.returns-then-more-eq0
-returns-then-more-eq0 c =
-    let l = c.args.self.now in
-    let x = c.loop-x.x in
-    let here : AfterRunends (bits_of l) (words_in l) x c.occupied_after-more.result x = record { none = λ z. refl; some = λ g. absurd (omega arith) } in
-    let stop : x ≡ start (many_of l) x + many_of l x = stop_after_stop _ _ _ (sound_of l) c.loop-x.past x _ c.loop-x.invariant.1 c.occupied_after-more.ensures x here in
-    (record { from = omega arith; free = omega (arith, stop); used = c.loop-x.invariant.2 }, omega arith)
-
-pub after_runends-x-requires : goal.after_runends-x-requires
-after_runends-x-requires c =
+pub after_runends-next-requires : goal.after_runends-next-requires
+after_runends-next-requires c =
     let l = c.args.self.now in
     stop_there _ _ _ (sound_of l) c.loop-x.past c.loop-x.x _ c.loop-x.invariant.1 c.occupied_after-more.ensures (omega (arith, l.few)) (omega (arith, l.few))
+
+pub returns-then-next-x : goal.returns-then-next-x
+returns-then-next-x c =
+    let l = c.args.self.now in
+    let x = c.loop-x.x in
+    let stop : c.if-past-x.next.0 ≡ start (many_of l) x + many_of l x =
+    elim c.if-past-x.branch [
+      | then-past-x w ↦ ap (λ s. s.0) w.next-is ∙ w.stop_of-next.ensures
+      | else-past-x w ↦ ap (λ s. s.0) w.next-is ∙ stop_after_stop _ _ _ (sound_of l) c.loop-x.past x _ c.loop-x.invariant.1 w.occupied_after-more.ensures _ w.after_runends-next.ensures
+    ] in
+    (record { from = omega arith; free = omega (arith, stop); used = c.loop-x.invariant.2 }, omega arith)
 
 pub loop-x-preserved : goal.loop-x-preserved
 loop-x-preserved c =
     let l = c.args.self.now in
     let x = c.loop-x.x in
-    let stop = stop_after_stop _ _ _ (sound_of l) c.loop-x.past x _ c.loop-x.invariant.1 c.occupied_after-more.ensures c.after_runends-x.result.0 c.after_runends-x.ensures in (
+    let stop : c.if-past-x.next.0 ≡ start (many_of l) x + many_of l x =
+    elim c.if-past-x.branch [
+      | then-past-x w ↦ ap (λ s. s.0) w.next-is ∙ w.stop_of-next.ensures
+      | else-past-x w ↦ ap (λ s. s.0) w.next-is ∙ stop_after_stop _ _ _ (sound_of l) c.loop-x.past x _ c.loop-x.invariant.1 w.occupied_after-more.ensures _ w.after_runends-next.ensures
+    ] in (
       omega (arith, stop),
       stop,
       λ y lo hi. ⊎_elim (λ (lt : y < x). c.loop-x.invariant.2 y lo lt)

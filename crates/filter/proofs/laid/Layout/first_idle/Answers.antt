@@ -1,4 +1,4 @@
-use Rattle.std.proofs.Common.{◌≡◌, ℕ, suc, ◌+◌, ◌-◌, ◌*◌, ◌<◌, ◌≤◌, ap, ◌∙◌, ⊎_elim, refl, sym, arith}
+use Rattle.std.proofs.Common.{◌≡◌, ℕ, suc, ◌+◌, ◌-◌, ◌*◌, ◌<◌, ◌≤◌, ap, ◌∙◌, ⊎_elim, sym, arith}
 use Rattle.std.proofs.lemmas.Bool.{cases_lt}
 use Rattle.layout.specs.Load.{load, start, tally}
 use Rattle.layout.proofs.Loads.{load_step}
@@ -9,6 +9,7 @@ use Rattle.filter.proofs.Sounds.{sound_of}
 use Rattle.filter.specs.declared.laid.Layout.{Layout}
 use Rattle.filter.specs.Layouts.{bits_of, words_in, many_of}
 use Rattle.filter.proofs.laid.Layout.first_idle.Goals as goal
+use Rattle.filter.proofs.laid.Layout.first_idle.Goals.{then-past-x, else-past-x}
 
 -- what is counted lies from the quotient after `past` up to x
 counted : (l : Layout) (past x more : ℕ) → x ≡ start (many_of l) (suc past)
@@ -31,16 +32,19 @@ pub loop-x-init : goal.loop-x-init
 loop-x-init c =
     (omega arith, c.requires.slots, omega (arith, c.requires.stop, c.requires.run, load_step (many_of c.args.self.now) c.args.c.0), λ y lo hi. absurd (omega arith))
 
-pub returns-then-more-eq0-clause-idle : goal.returns-then-more-eq0-clause-idle
-returns-then-more-eq0-clause-idle c =
+pub returns-then-next-x-clause-idle : goal.returns-then-next-x-clause-idle
+returns-then-next-x-clause-idle c =
     let l = c.args.self.now in
     let x = c.loop-x.x in
-    let here : AfterRunends (bits_of l) (words_in l) x c.occupied_after-more.result x = record { none = λ z. refl; some = λ g. absurd (omega arith) } in
-    let stop = next l c.loop-x.past x _ x c.loop-x.invariant.2 c.occupied_after-more.ensures here in
-    record { from = omega (arith, c.requires.run, c.requires.stop); idle = omega (arith, stop); waits = λ y lo hi. c.loop-x.invariant.3 y (omega arith) hi }
+    let is : c.if-past-x.next.0 ≡ start (many_of l) x =
+    elim c.if-past-x.branch [
+      | then-past-x w ↦ ap (λ s. s.0) w.next-is ∙ w.start_of-next.ensures
+      | else-past-x w ↦ ap (λ s. s.0) w.next-is ∙ next l c.loop-x.past x _ _ c.loop-x.invariant.2 w.occupied_after-more.ensures w.after_runends-next.ensures
+    ] in
+    record { from = omega (arith, c.requires.run, c.requires.stop); idle = omega (arith, is); waits = λ y lo hi. c.loop-x.invariant.3 y (omega arith) hi }
 
-pub after_runends-x-requires : goal.after_runends-x-requires
-after_runends-x-requires c =
+pub after_runends-next-requires : goal.after_runends-next-requires
+after_runends-next-requires c =
     let l = c.args.self.now in
     let past = c.loop-x.past in
     let x = c.loop-x.x in
@@ -51,13 +55,17 @@ pub loop-x-preserved : goal.loop-x-preserved
 loop-x-preserved c =
     let l = c.args.self.now in
     let x = c.loop-x.x in
-    let stop = next l c.loop-x.past x _ c.after_runends-x.result.0 c.loop-x.invariant.2 c.occupied_after-more.ensures c.after_runends-x.ensures in
+    let is : c.if-past-x.next.0 ≡ start (many_of l) x =
+    elim c.if-past-x.branch [
+      | then-past-x w ↦ ap (λ s. s.0) w.next-is ∙ w.start_of-next.ensures
+      | else-past-x w ↦ ap (λ s. s.0) w.next-is ∙ next l c.loop-x.past x _ _ c.loop-x.invariant.2 w.occupied_after-more.ensures w.after_runends-next.ensures
+    ] in
     let again : suc (x - 1) ≡ x = omega (arith, c.loop-x.invariant.2) in (
-      omega (arith, stop),
-      omega (arith, stop, start_bound _ _ _ (sound_of l) x),
-      stop ∙ sym (ap (start (many_of l)) again),
+      omega (arith, is),
+      omega (arith, is, start_bound _ _ _ (sound_of l) x),
+      is ∙ sym (ap (start (many_of l)) again),
       λ y lo hi. ⊎_elim (λ (lt : y < x). c.loop-x.invariant.3 y lo lt)
-          (λ (le : x ≤ y). waits_upto _ _ _ (sound_of l) x y le (omega (arith, stop))) (cases_lt y x),
+          (λ (le : x ≤ y). waits_upto _ _ _ (sound_of l) x y le (omega (arith, is))) (cases_lt y x),
     )
 
 pub returns-clause-idle : goal.returns-clause-idle

@@ -19,7 +19,7 @@ overflow_add-before c =
     omega (
       arith,
       before_few _ _ _ (sound_of l) s w.0 c.home_block-a.result c.runends_between-before.result w.1 c.home_block-a.ensures
-          (c.runends_between-before.ensures ∙ ap (λ h. tally (runend_in r ws) s - tally (runend_in r ws) h) c.start_of-head.ensures),
+          (c.runends_between-before.ensures ∙ ap (λ h. tally (runend_in r ws) s - tally (runend_in r ws) h) c.head_of-head.ensures),
     )
 
 pub returns : goal.returns
@@ -32,5 +32,5 @@ returns c =
     let used : 0 < load m s + m s = omega arith in
     let w = owner m (runend_in r ws) (ends _ _ _ (sound_of l)) s used in
     found_quotient _ _ _ (sound_of l) s w.0 c.home_block-a.result c.runends_between-before.result w.1 c.home_block-a.ensures
-    (c.runends_between-before.ensures ∙ ap (λ h. tally (runend_in r ws) s - tally (runend_in r ws) h) c.start_of-head.ensures)
+    (c.runends_between-before.ensures ∙ ap (λ h. tally (runend_in r ws) s - tally (runend_in r ws) h) c.head_of-head.ensures)
     (omega arith) c.nth_occupied.result c.nth_occupied.ensures
