@@ -34,13 +34,14 @@ const SHARED: [Step; 17] = [
     Step::Look(Pair { left: 0, right: 1 }),
 ];
 
-/// Calls that only the list admits: with a pair that has no cell in the grid.
-const APART: [Step; 5] = [
+/// Calls with a pair that only the list admits, since it has no cell in the grid. The list is full with it, and has room once it is taken out.
+const APART: [Step; 6] = [
     Step::Set(Pair { left: 2, right: 0 }, 7),
     Step::Look(Pair { left: 2, right: 0 }),
     Step::Set(Pair { left: 1, right: 0 }, 8),
     Step::Remove(Pair { left: 2, right: 0 }),
     Step::Look(Pair { left: 0, right: 1 }),
+    Step::Set(Pair { left: 1, right: 0 }, 8),
 ];
 
 /// Makes calls on a table, and prints them with their answers.

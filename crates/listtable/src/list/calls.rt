@@ -1,9 +1,8 @@
 //! The calls on a list table.
-ghost use Rattle.std.specs.Prelude.{◌≡◌, ◌<◌, List, length, set, take};
-ghost use Rattle.std.specs.List.{position};
-ghost use Rattle.kinds.specs.Keys.{same_key};
+ghost use Rattle.std.specs.Prelude.{◌≡◌, ◌<◌, false, List, length, set, take, is_ok};
+ghost use Rattle.tables.specs.Meaning.{SameFrame, SetDone, RemoveDone};
 ghost use Rattle.tables.specs.declared.record.Record.{Record as Entry};
-ghost use Rattle.listtable.specs.Lists.{list_capacity, list_meaning, empty_list, beyond_list};
+ghost use Rattle.listtable.specs.Lists.{list_capacity, list_meaning, empty_list, beyond_list, key_place, SetWrites, RemoveWrites};
 ghost use Rattle.listtable.specs.Propers.{proper_list};
 
 use crate::list::ListTable;
@@ -42,7 +41,7 @@ impl<K: Kind> ListTable<'_, K> {
 
     /// The place of a key, if it is held.
     fn place(&self, key: K::Key) -> Option<usize>
-        ensures { result ≡ position (λ entry. same_key K.Kind.bytes entry.key key) (take self.now.held self.now.records.now) }
+        ensures { result ≡ key_place K.Kind.bytes self.now.held self.now.records.now key }
     {
         self.entries()
             .iter()
@@ -88,7 +87,18 @@ impl<'a, K: Kind> Table<K> for ListTable<'a, K> {
         self.capacity()
     }
 
-    fn set(&mut self, key: K::Key, value: K::Value) -> Result<(), TableFault> {
+    fn set(&mut self, key: K::Key, value: K::Value) -> Result<(), TableFault>
+        ensures frame { SameFrame (list_meaning self.old.held self.old.records.now)
+            (list_meaning self.new.held self.new.records.now) }
+        ensures lender { self.new.records.ghost_name ≡ self.old.records.ghost_name }
+        ensures beyond { beyond_list self.new.records.now ≡ beyond_list self.old.records.now }
+        ensures done { SetDone K.Kind.bytes (list_meaning self.old.held self.old.records.now)
+            (list_meaning self.new.held self.new.records.now) key value result }
+        ensures undone { is_ok result ≡ false → self.new ≡ self.old }
+        // more than the trait asks: how many records are held then, and what each lent one is
+        ensures list { SetWrites result (key_place K.Kind.bytes self.old.held self.old.records.now key) key value
+            self.old.held self.old.records.now self.new.held self.new.records.now }
+    {
         let record = Record { key, value };
         if let Some(place) = self.place(key) {
             write(&mut self.records[..], place, record);
@@ -102,7 +112,18 @@ impl<'a, K: Kind> Table<K> for ListTable<'a, K> {
         Ok(())
     }
 
-    fn remove(&mut self, key: K::Key) -> Result<(), TableFault> {
+    fn remove(&mut self, key: K::Key) -> Result<(), TableFault>
+        ensures frame { SameFrame (list_meaning self.old.held self.old.records.now)
+            (list_meaning self.new.held self.new.records.now) }
+        ensures lender { self.new.records.ghost_name ≡ self.old.records.ghost_name }
+        ensures beyond { beyond_list self.new.records.now ≡ beyond_list self.old.records.now }
+        ensures done { RemoveDone K.Kind.bytes (list_meaning self.old.held self.old.records.now)
+            (list_meaning self.new.held self.new.records.now) key result }
+        ensures undone { is_ok result ≡ false → self.new ≡ self.old }
+        // more than the trait asks: how many records are held then, and what each lent one is
+        ensures list { RemoveWrites result (key_place K.Kind.bytes self.old.held self.old.records.now key)
+            self.old.held self.old.records.now self.new.held self.new.records.now }
+    {
         let place = self.place(key).ok_or(TableFault::NotHeld)?;
         let last = self.records[self.held - 1];
         write(&mut self.records[..], place, last);
