@@ -7,4 +7,4 @@ mod reporting;
 
 pub use lines::{Batch, BookKind, Destination, RefusedLine};
 pub use reading::batch_of;
-pub use reporting::refused_lines;
+pub use reporting::{refused_among, refused_lines};

@@ -36,17 +36,29 @@ fn refusal_of(
 
 /// The lines that are refused, in order, by their destinations and by what each book answered to its calls. A call that was not performed is not refused.
 #[tactic(auto, unfolding(crate::specs::Reports::refused_from))]
-pub fn refused_lines(heap: Global, batch: &Batch) -> Result<Vec<RefusedLine>, AllocError>
-    ensures { IfOk result (λ refused. refused.items
-        ≡ refused_from 1 batch.now.lines.items batch.now.kerns.items batch.now.ligatures.items) }
+pub fn refused_among(
+    heap: Global,
+    lines: &[Destination],
+    kerns: &[Call<Pair, i16>],
+    ligatures: &[Call<Sequence, u16>],
+) -> Result<Vec<RefusedLine>, AllocError>
+    ensures { IfOk result (λ refused. refused.items ≡ refused_from 1 lines.now kerns.now ligatures.now) }
 {
     let mut refused = Vec::new(heap);
-    let mut kerns_left = batch.kerns.iter();
-    let mut ligatures_left = batch.ligatures.iter();
-    for (i, destination) in batch.lines.iter().enumerate() {
+    let mut kerns_left = kerns.iter();
+    let mut ligatures_left = ligatures.iter();
+    for (i, destination) in lines.iter().enumerate() {
         if let Some(fault) = refusal_of(*destination, &mut kerns_left, &mut ligatures_left) {
             refused.push(RefusedLine { line: i + 1, fault })?;
         }
     }
     Ok(refused)
+}
+
+/// The lines of a batch that are refused, as `refused_among` tells them.
+pub fn refused_lines(heap: Global, batch: &Batch) -> Result<Vec<RefusedLine>, AllocError>
+    ensures { IfOk result (λ refused. refused.items
+        ≡ refused_from 1 batch.now.lines.items batch.now.kerns.items batch.now.ligatures.items) }
+{
+    refused_among(heap, &batch.lines, &batch.kerns, &batch.ligatures)
 }

@@ -1,6 +1,6 @@
 -- Lines that begin with a word.
-use Rattle.std.proofs.Common.{◌≡◌, ℕ, ◌+◌, ◌-◌, ◌≤◌, List, [], ◌∷◌, ◌++◌, length, get_or, take, drop, sym, ap, ◌∙◌, arith, length-drop}
-use Rattle.std.proofs.lemmas.List.{drop_more, take_all}
+use Rattle.std.proofs.Common.{◌≡◌, ℕ, ◌+◌, ◌-◌, ◌≤◌, List, [], ◌∷◌, ◌++◌, length, get_or, take, drop, sym, ap, ◌∙◌, append-nil, arith, length-drop}
+use Rattle.std.proofs.lemmas.List.{drop_more, drop_all, take_all}
 
 -- the bytes of the word stand in xs from i on
 abbrev pub At : List ℕ → ℕ → List ℕ → Type 0
@@ -22,6 +22,12 @@ begun xs word h le =
     let same : 0 + length word ≡ length word = omega arith in
     let all = take_all (length xs - length word) (drop (length word) xs) (omega (arith, length-drop (length word) xs)) in
     parts ∙ ap (λ k. word ++ drop k xs) same ∙ ap (λ l. word ++ l) (sym all)
+
+-- a line that is the word
+pub spelt : (xs word : List ℕ) → At xs 0 word → length xs ≡ length word → xs ≡ word
+spelt xs word h e =
+    let parts = parted xs word 0 h (omega arith) in
+    parts ∙ ap (λ l. word ++ l) (drop_all (0 + length word) xs (omega arith)) ∙ append-nil word
 
 -- two texts that differ at i
 pub apart : (i : ℕ) (xs ys zs : List ℕ) → xs ≡ ys → xs ≡ zs → (get_or ys i 0 ≡ get_or zs i 0 → ⊥) → ⊥

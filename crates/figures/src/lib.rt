@@ -5,7 +5,7 @@
 //! Only a value may have a minus, and `-0` is none.
 #![tactic(auto)]
 
-ghost use Rattle.std.specs.Prelude.{◌≡◌, ◌<◌, ◌≤◌, ◌++◌, MatchResult, min};
+ghost use Rattle.std.specs.Prelude.{◌≡◌, ◌^◌, ◌<◌, ◌≤◌, ◌++◌, IfSome, IfNone, MatchResult, min};
 ghost use Rattle.std.specs.Str.Parse.{AllDigits, digits_value};
 ghost use Rattle.figures.specs.Figures.{Stops, Read, NoFigure, Whole, NoWhole, Spaced, NoSpaced, Natural};
 ghost use Rattle.figures.specs.Amounts.{Glyphed, Weighed, Paired};
@@ -57,13 +57,30 @@ pub fn figure(bytes: &[u8]) -> Result<(u32, &[u8]), FigureFault>
     }
 }
 
+// The number that the bytes write, if they are digits and it is below 2^64.
+fn digits_number(bytes: &[u8]) -> Option<u64>
+    ensures some { IfSome result (λ n. AllDigits 10 bytes.now × (n ≡ digits_value 10 bytes.now)) }
+    ensures none { IfNone result (AllDigits 10 bytes.now → 2 ^ 64 ≤ digits_value 10 bytes.now) }
+{
+    let mut number: u64 = 0;
+    for digit in bytes {
+        if !digit.is_ascii_digit() {
+            return None;
+        }
+        number = number
+            .checked_mul(10)?
+            .checked_add(u64::from(digit - b'0'))?;
+    }
+    Some(number)
+}
+
 /// The number of the figure that the bytes are, if it is below 2^64.
 pub fn natural(bytes: &[u8]) -> Option<u64>
     ensures { Natural bytes.now result }
 {
     match bytes {
         [b'0'] => Some(0),
-        [b'1'..=b'9', ..] => str::from_utf8(bytes).ok()?.parse().ok(),
+        [b'1'..=b'9', ..] => digits_number(bytes),
         _ => None,
     }
 }

@@ -215,6 +215,10 @@ module _ (side : ℕ) (cells : List ℤ) (room : side * side ≤ length cells) (
       let v = a_value (value_of (get_or cells at free_cell)) here.2 in
       (v.0, row_of_pair side cells p here.0 ∙ ap (pair_row p) (ap (λ n. value_of (get_or cells n free_cell)) (sym here.1) ∙ v.1))
 
+  -- its cell is one of the grid's
+  pub taken_below : at < length cells
+  taken_below = let b = place_below side p here.0 in omega (arith, here.1)
+
   held_clear : record_count (set (grid_rows side cells) (pair_place side p) None) + 1 ≡ record_count (grid_rows side cells)
   held_clear =
       let b = place_below side p here.0 in

@@ -1,10 +1,10 @@
 -- Why a grid is a proper table: a proof, for the table's ghost member; nothing else has to be read here.
-use Rattle.std.specs.Prelude.{◌≡◌, ℕ, ◌+◌, ◌*◌, ◌/◌, ◌%◌, ◌<◌, ◌≤◌, true, ◌⊎◌, List, length, ℤ, Some, None, Option, slice_index_or}
+use Rattle.std.specs.Prelude.{◌≡◌, ℕ, ◌+◌, ◌*◌, ◌/◌, ◌%◌, ◌<◌, ◌≤◌, true, ◌⊎◌, List, length, ℤ, Some, None, Option, nat_lt, slice_index_or}
 use Rattle.std.proofs.Common.{sym, ap, ◌∙◌, inl, inr, arith}
 use Rattle.std.proofs.lemmas.Nat.{div-add-mod', div_below, mod_below, mul-le}
 use Rattle.std.proofs.lemmas.List.FromFn.{length-map-range_with_len, get_or-map-range_with_len}
 use Rattle.std.proofs.lemmas.List.{get_or_past}
-use Rattle.std.proofs.lemmas.Bool.{cases_lt, lt-ltb, and_from}
+use Rattle.std.proofs.lemmas.Bool.{cases_lt, lt-ltb, ltb-true, and_from, and_parts}
 use Rattle.kinds.specs.declared.kern.Pair.{Pair}
 use Rattle.tables.specs.declared.record.Record.{Record}
 use Rattle.tables.specs.Rows.{Apart}
@@ -57,6 +57,12 @@ pair_within side i h = by_cases (cases_lt 0 side)
     by_cases : (0 < side) ⊎ (side ≤ 0) → in_square side (pair_at side i) ≡ true
     by_cases (inl some) = and_from _ _ (lt-ltb (i / side) side (div_below i side side some h)) (lt-ltb (i % side) side (mod_below i side some))
     by_cases (inr none) = absurd (omega (arith, mul-le side side 0 0 none none))
+
+-- the left glyph of such a pair is small
+pub row_column : (side i : ℕ) → side ≤ 1024 → i < side * side → i / side < 1024
+row_column side i small h =
+    let t = ltb-true (i / side) side (and_parts (nat_lt (i / side) side) (nat_lt (i % side) side) (pair_within side i h)).0 in
+    omega arith
 
 -- a square has few cells
 pub few_cells : (side : ℕ) → side ≤ 1024 → side * side ≤ 1048576

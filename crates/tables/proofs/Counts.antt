@@ -1,7 +1,8 @@
 -- How many places hold a record, and how that changes with one place.
-use Rattle.std.proofs.Common.{◌≡◌, ℕ, zero, suc, ◌+◌, ◌<◌, ◌≤◌, cond, List, [], ◌∷◌, ◌++◌, map, length, get_or, set, replicate, is_some, Some, None, Option, ap, ◌∙◌, refl, arith}
+use Rattle.std.proofs.Common.{◌≡◌, ℕ, zero, suc, ◌+◌, ◌<◌, ◌≤◌, cond, List, [], ◌∷◌, ◌++◌, map, length, get_or, set, replicate, is_some, Some, None, Option, sym, ap, ◌∙◌, refl, arith}
 use Rattle.std.proofs.lemmas.List.Sums.{sum_by-cons, sum_by-set, count_by-le-length}
 use Rattle.tables.specs.Rows.{record_count}
+use Rattle.tables.proofs.Options.{none_some}
 
 -- 1 for a record, 0 for a free place
 abbrev held : {R : Type 0} → Option R → ℕ
@@ -32,3 +33,10 @@ count_refill rows p r s h e = omega (arith, sum_by-set held rows p (Some r) None
 -- a held place is freed
 pub count_clear : {R : Type 0} (rows : List (Option R)) (p : ℕ) (s : R) → p < length rows → get_or rows p None ≡ Some s → record_count (set rows p None) + 1 ≡ record_count rows
 count_clear rows p s h e = omega (arith, sum_by-set held rows p None None h, ap held e)
+
+-- where all places hold a record, none is free
+pub count_full : {R : Type 0} (rows : List (Option R)) (p : ℕ) → p < length rows → record_count rows ≡ length rows → get_or rows p None ≡ None → ⊥
+count_full [] p h c e = absurd (omega arith)
+count_full (None ∷ rows) p h c e = omega (arith, count_cons None rows, count_fits rows)
+count_full (Some r ∷ rows) zero h c e = none_some r (sym e)
+count_full (Some r ∷ rows) (suc p) h c e = count_full rows p (omega arith) (omega (arith, count_cons (Some r) rows)) e

@@ -1,10 +1,11 @@
 //! Figures and lines, and a text sorted with its refused lines.
 use answers::Refusal;
-use batch::{BookKind, RefusedLine, batch_of, refused_lines};
+use batch::{BookKind, RefusedLine, batch_of, refused_among, refused_lines};
 use figures::lines::next_line;
 use figures::{FigureFault, natural, pair_fields};
 use forms::LineFault;
-use history::{BookFault, Stored, Told};
+use history::{BookFault, Call, Operation, Stored, Told};
+use kinds::Pair;
 use std::alloc::AllocError;
 use std::test::Fail;
 
@@ -35,6 +36,33 @@ fn tells_the_refused_lines(rt: HostRuntime) -> Result<(), AllocError> {
             fault: Refusal::Book(BookFault::StrangeFilter),
         },
     ];
+    assert_eq!(rt; refused.as_slice(), expected.as_slice());
+    Ok(())
+}
+
+#[test]
+fn tells_the_refused_among_slices(rt: HostRuntime) -> Result<(), AllocError> {
+    let lines = [Ok(BookKind::Kern), Ok(BookKind::Kern), Ok(BookKind::Kern)];
+    let pair = Pair { left: 1, right: 2 };
+    let kerns = [
+        Call {
+            operation: Operation::Put(pair, -3),
+            answer: Some(Ok(Told::Stored(Stored::Kept))),
+        },
+        Call {
+            operation: Operation::Drop(pair),
+            answer: Some(Err(BookFault::StrangeFilter)),
+        },
+        Call {
+            operation: Operation::Find(pair),
+            answer: None,
+        },
+    ];
+    let refused = refused_among(rt.alloc(), &lines, &kerns, &[])?;
+    let expected = [RefusedLine {
+        line: 2,
+        fault: Refusal::Book(BookFault::StrangeFilter),
+    }];
     assert_eq!(rt; refused.as_slice(), expected.as_slice());
     Ok(())
 }
