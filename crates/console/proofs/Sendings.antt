@@ -1,7 +1,8 @@
 -- Texts that are written one after the other.
-use Rattle.std.proofs.Common.{◌≡◌, ℕ, List, [], ◌∷◌, ◌++◌, take, drop, length, Some, None, Option, Ok, Err, Result, sym, ap, subst, ◌∙◌, append-nil, append_assoc}
+use Rattle.std.proofs.Common.{◌≡◌, ℕ, ◌+◌, ◌<◌, List, [], ◌∷◌, ◌++◌, take, drop, length, get_or, flat_map, Some, None, Option, Ok, Err, Result, sym, ap, subst, ◌∙◌, append-nil, append_assoc}
 use Rattle.std.proofs.Math.Seq.{take-append_seam}
-use Rattle.std.proofs.lemmas.List.{take-append-drop}
+use Rattle.std.proofs.lemmas.List.{take-append-drop, take_more, flat_map_more}
+use Rattle.std.proofs.lemmas.Grind.{flat_map-append}
 use Rattle.std.specs.Io.KnownBytes.{Keeps, Appends}
 use Rattle.console.specs.declared.fault.Fault.{Fault}
 use Rattle.console.specs.Sending.{AppendsBeginning, Sent}
@@ -49,6 +50,26 @@ sent_after o p q a b (Err fault) s (e, t) = (e, begins_after o p q a b s t)
 -- a text whose first part is not sent whole
 pub sent_short : (o p : Option (List ℕ)) (a b : List ℕ) (fault : Fault) → Sent o p a (Err fault) → Sent o p (a ++ b) (Err fault)
 sent_short o p a b fault (e, t) = (e, begins_longer o p a b t)
+
+-- a text is sent up to a part that is not sent whole
+pub sent_part : (o p q : Option (List ℕ)) (a b c text : List ℕ) (fault : Fault) → Appends o p a → Sent p q b (Err fault) → text ≡ a ++ (b ++ c) → Sent o q text (Err fault)
+sent_part o p q a b c text fault s t e =
+    subst (λ xs. Sent o q xs (Err fault)) (sym e) (sent_after o p q a (b ++ c) (Err fault) s (sent_short p q b c fault t))
+
+-- the front of a text is written, and the rest is sent
+pub sent_behind : (o p q : Option (List ℕ)) (text rest : List ℕ) (n : ℕ) (result : Result (Unit {0}) Fault) → Appends o p (take n text) → rest ≡ drop n text → Sent p q rest result → Sent o q text result
+sent_behind o p q text rest n result s e t =
+    subst (λ xs. Sent o q xs result) (take-append-drop n text) (sent_after o p q (take n text) (drop n text) result s (subst (λ xs. Sent p q xs result) e t))
+
+-- nothing is written, and then a text is sent
+pub sent_kept : (o p q : Option (List ℕ)) (text : List ℕ) (result : Result (Unit {0}) Fault) → Keeps o p → Sent p q text result → Sent o q text result
+sent_kept o p q text result k t = sent_after o p q [] text result (appends_kept o o p [] (appends_none o) k) t
+
+-- what is written of a list, cut at the i-th of its elements
+pub flat_map_at : {X : Type 0} (f : X → List ℕ) (xs : List X) (i : ℕ) (d : X) → i < length xs → flat_map f xs ≡ flat_map f (take i xs) ++ (f (get_or xs i d) ++ flat_map f (drop (i + 1) xs))
+flat_map_at f xs i d h =
+    ap (flat_map f) (sym (take-append-drop (i + 1) xs) ∙ ap (λ ys. ys ++ drop (i + 1) xs) (take_more xs i d h)) ∙ flat_map-append f (take i xs ++ (get_or xs i d ∷ [])) (drop (i + 1) xs)
+    ∙ ap (λ ys. ys ++ flat_map f (drop (i + 1) xs)) (sym (flat_map_more f [] (take i xs) (get_or xs i d))) ∙ append_assoc (flat_map f (take i xs)) (f (get_or xs i d)) (flat_map f (drop (i + 1) xs))
 
 -- the text is part and then rest, and part is written from o to p
 abbrev pub Written : Option (List ℕ) → Option (List ℕ) → List ℕ → List ℕ → Type 0

@@ -1,13 +1,14 @@
 //! What is written, and how much of it where a stream fails.
 ghost use Rattle.std.specs.Prelude.{◌≡◌, [], ◌∷◌, ◌++◌, IfOk, IfErr};
 ghost use Rattle.std.specs.Io.Buffered.{writer_buffer, writer_inner};
+ghost use Rattle.std.specs.Fmt.{decimal};
 ghost use Rattle.console.specs.declared.fault.Fault.TheVariants.{Memory};
 ghost use Rattle.console.specs.Texts.{refusal_text};
 ghost use Rattle.console.specs.Sending.{Sent};
 
 use crate::fault::Fault;
 use filter::FilterFault;
-use itoa::Buffer;
+use itoa::{Buffer, write_digits};
 use std::alloc::Global;
 use std::io::{BufWriter, ErrorKind, Write};
 
@@ -20,10 +21,11 @@ pub fn buffered<W: Write + Drop>(heap: Global, to: W) -> Result<BufWriter<W>, Fa
     BufWriter::new(heap, to).map_err(|_| Fault::Memory)
 }
 
-/// Writes a text, or a beginning of it where the stream fails. A write that a signal interrupts is tried again.
-// That a stream fails is left open: the library says of no write when it is an error, nor of which kind, so whatever kind that is, it is the stream that fails.
+// What a first write left of a text. It stands apart, so that `send` is that write alone where it takes the whole text.
 // The library's `write_all` says nothing of what was written where it is an error; a single `write` does. As there, 2^64 - 1 tries are the most.
-pub fn send<W: Write>(out: &mut W, text: &[u8]) -> Result<(), Fault>
+#[cold]
+#[inline(never)]
+fn send_rest<W: Write>(out: &mut W, text: &[u8]) -> Result<(), Fault>
     ensures { Sent (W.contents out.old) (W.contents out.new) text.now result }
 {
     let mut rest = text;
@@ -39,6 +41,39 @@ pub fn send<W: Write>(out: &mut W, text: &[u8]) -> Result<(), Fault>
         }
     }
     Err(Fault::Stream)
+}
+
+/// Writes a text, or a beginning of it where the stream fails. A write that a signal interrupts is tried again.
+// That a stream fails is left open: the library says of no write when it is an error, nor of which kind, so whatever kind that is, it is the stream that fails.
+#[inline(always)]
+pub fn send<W: Write>(out: &mut W, text: &[u8]) -> Result<(), Fault>
+    ensures { Sent (W.contents out.old) (W.contents out.new) text.now result }
+{
+    if text.is_empty() {
+        return Ok(());
+    }
+    match out.write(text) {
+        Ok(n) if n == text.len() => Ok(()),
+        Ok(0) => Err(Fault::Stream),
+        Ok(n) => {
+            send_rest(out, &text[n..])?;
+            Ok(())
+        }
+        Err(error) if error.kind() == ErrorKind::Interrupted => {
+            send_rest(out, text)?;
+            Ok(())
+        }
+        Err(_) => Err(Fault::Stream),
+    }
+}
+
+/// Writes a number in decimal digits, and a byte after them. Nothing is allocated for it.
+pub fn send_number<W: Write>(out: &mut W, number: u64, end: u8) -> Result<(), Fault>
+    ensures { Sent (W.contents out.old) (W.contents out.new) (decimal number ++ end ∷ []) result }
+{
+    let mut text = [end; 21];
+    let start = write_digits(number, &mut text, 20);
+    send(out, &text[start..])
 }
 
 /// Writes the line of a refusal. Nothing is allocated for it.

@@ -2,3 +2,4 @@ pub mod Spelling
 pub mod Beginning
 pub mod Growing
 pub mod Stopping
+pub mod Listing

@@ -1,34 +1,37 @@
 //! What questions are answered.
-ghost use Rattle.std.specs.Prelude.{◌≡◌, [], ◌∷◌, IfOk, Some};
-ghost use Rattle.std.specs.Fmt.{decimal};
-ghost use Rattle.std.specs.List.{join_by};
-ghost use Rattle.filterlog.specs.Answers.{has_text, answer_text};
+ghost use Rattle.std.specs.Prelude.{◌≡◌, IfOk, Some};
+ghost use Rattle.console.specs.Sending.{Sent};
+ghost use Rattle.filterlog.specs.Answers.{entry_text, has_text, list_text, answer_text};
 ghost use Rattle.filterlog.specs.Runs.{QuestionAnswered};
 
 use crate::commands::Question;
-use console::program::Refused;
+use console::fault::Fault;
+use console::output::{send, send_number, send_refusal};
 use console::storage::Blocks;
 use filter::{Filter, FilterFault, Quotient};
 use std::alloc::{AllocError, Global};
-use std::fmt;
+use std::io::Write;
 
-/// Numbers, printed with a space between two.
-#[derive(Drop)]
-struct Spaced<'a>(&'a [u64]);
+/// Writes the quotient and the remainder of an entry on a line.
+fn send_entry<W: Write>(out: &mut W, quotient: Quotient, remainder: u32) -> Result<(), Fault>
+    ensures { Sent (W.contents out.old) (W.contents out.new)
+        (entry_text (Some (quotient, remainder))) result }
+{
+    send_number(out, u64::from(quotient.0), b' ')?;
+    send_number(out, u64::from(remainder), b'\n')
+}
 
-impl fmt::Display for Spaced<'_> {
-    ghost output = { λ s. Some (join_by decimal (32 ∷ []) s.0.now) };
-
-    fn fmt<W: fmt::Write>(&self, f: &mut fmt::Formatter<W>) -> fmt::Result {
-        let Some((first, rest)) = self.0.split_first() else {
-            return Ok(());
-        };
-        write!(f, "{first}")?;
-        for number in rest {
-            write!(f, " {number}")?;
-        }
-        Ok(())
+/// Writes numbers on a line, a space between two.
+fn send_list<W: Write>(out: &mut W, list: &[u64]) -> Result<(), Fault>
+    ensures { Sent (W.contents out.old) (W.contents out.new) (list_text list.now) result }
+{
+    let Some((last, front)) = list.split_last() else {
+        return send(out, b"\n");
+    };
+    for number in front {
+        send_number(out, *number, b' ')?;
     }
+    send_number(out, *last, b'\n')
 }
 
 /// What a question is answered.
@@ -46,25 +49,6 @@ pub(crate) enum Answer<'a> {
     Words(Blocks<'a>),
     /// All fingerprints in rising order.
     List(Vec<u64>),
-}
-
-impl fmt::Display for Answer<'_> {
-    ghost output = { λ a. Some (answer_text a) };
-
-    fn fmt<W: fmt::Write>(&self, f: &mut fmt::Formatter<W>) -> fmt::Result {
-        match self {
-            Answer::Refused(fault) => writeln!(f, "{}", Refused(*fault)),
-            Answer::Found(true) => writeln!(f, "yes"),
-            Answer::Found(false) => writeln!(f, "no"),
-            Answer::Held(held) => writeln!(f, "{held}"),
-            Answer::Entry(Some((Quotient(quotient), remainder))) => {
-                writeln!(f, "{quotient} {remainder}")
-            }
-            Answer::Entry(None) => writeln!(f, "free"),
-            Answer::Words(blocks) => write!(f, "{blocks}"),
-            Answer::List(list) => writeln!(f, "{}", Spaced(list.as_slice())),
-        }
-    }
 }
 
 impl<'a> Answer<'a> {
@@ -93,5 +77,21 @@ impl<'a> Answer<'a> {
             Question::Words => Answer::Words(Blocks::of(filter.plan(), filter.words())),
             Question::List => Answer::List(filter.fingerprints(heap)?),
         })
+    }
+
+    /// Writes the answer, piece by piece. Nothing is allocated for it.
+    pub(crate) fn send<W: Write>(&self, out: &mut W) -> Result<(), Fault>
+        ensures { Sent (W.contents out.old) (W.contents out.new) (answer_text self.now) result }
+    {
+        match self {
+            Answer::Refused(fault) => send_refusal(out, *fault),
+            Answer::Found(true) => send(out, b"yes\n"),
+            Answer::Found(false) => send(out, b"no\n"),
+            Answer::Held(held) => send_number(out, u64::from(*held), b'\n'),
+            Answer::Entry(Some((quotient, remainder))) => send_entry(out, *quotient, *remainder),
+            Answer::Entry(None) => send(out, b"free\n"),
+            Answer::Words(blocks) => blocks.send(out),
+            Answer::List(list) => send_list(out, list.as_slice()),
+        }
     }
 }

@@ -41,7 +41,7 @@ fn print_edit<W: Write>(out: &mut W, edit: Result<(), FilterFault>) -> Result<()
     }
 }
 
-/// Prints what a question is answered, once the whole answer is put together.
+/// Prints what a question is answered. All that memory is wanted for is there before the first byte of it is written.
 fn print_told<W: Write>(
     heap: Global,
     out: &mut W,
@@ -51,8 +51,7 @@ fn print_told<W: Write>(
     ensures { QuestionDone filter.now question (W.contents out.old) (W.contents out.new) result }
 {
     let answer = Answer::of(heap, filter, question)?;
-    let text = format!(in heap; "{answer}")?;
-    send(out, text.as_bytes())
+    answer.send(out)
 }
 
 /// Runs the command that a line is, and prints what it answers.

@@ -1,4 +1,5 @@
 pub mod Sofar
+pub mod Pages
 pub mod Beginning
 pub mod Ones
 pub mod Streams

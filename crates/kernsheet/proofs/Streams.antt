@@ -1,9 +1,12 @@
 -- What is known of bytes that are read and written.
 use Rattle.std.proofs.lemmas.List.{take_all, length-take-le}
 use Rattle.std.proofs.lemmas.Bool.{cases_lt}
-use Rattle.std.proofs.Common.{◌≡◌, ℕ, ◌<◌, ◌≤◌, arith, length, inr, ⊎_elim, subst, subst₂, List, take, Some, None, Ok, Err, Option, Result, Vec, Global, IfOk, IfSome, option_map, refl}
+use Rattle.std.proofs.Common.{◌≡◌, ℕ, ◌<◌, ◌≤◌, arith, length, inr, ap, ⊎_elim, subst, subst₂, List, take, Some, None, Ok, Err, Option, Result, Vec, Global, IfOk, IfSome, option_map, refl}
 use Rattle.std.specs.Io.Take.{take_limit, take_inner, take_remaining}
 use Rattle.std.specs.declared.io.Take.{Take}
+use Rattle.answers.specs.declared.fault.Refusal.TheVariants.{LongSheet}
+use Rattle.answers.specs.declared.fault.SheetFault.{SheetFault}
+use Rattle.answers.specs.Texts.{answer_line}
 use Rattle.console.specs.declared.fault.Fault.{Fault}
 use Rattle.console.specs.declared.fault.Fault.TheVariants.{Memory, Stream, Arguments, Filter}
 use Rattle.console.specs.Sending.{Sent}
@@ -44,3 +47,8 @@ replied contents left old new front text (Err Memory) is a (stream, s) = cc
 replied contents left old new front text (Err Stream) is a (stream, s) = inr (text, input_answered left front text is a, s)
 replied contents left old new front text (Err Arguments) is a (stream, s) = cc
 replied contents left old new front text (Err (Filter f)) is a (stream, s) = cc
+
+-- the answer to a sheet that is too long is sent
+pub long_sent : (sheet : List ℕ) (o p : Option (List ℕ)) (e : SheetFault) (r : Result (Unit {0}) Fault) → 65535 < length sheet → e ≡ record { line = 0; fault = LongSheet }
+    → Sent o p (answer_line e.line (Err e.fault)) r → (text : List ℕ) × OneAnswer sheet text × Sent o p text r
+long_sent sheet o p e r long is s = (_, one_answer sheet _ (inr (long, ap (λ (f : SheetFault). answer_line f.line (Err f.fault)) is)), s)

@@ -22,11 +22,15 @@ use Rattle.kernwords.specs.declared.sizes.Size.{Size}
 use Rattle.kernwords.specs.declared.books.BookWords.{BookWords}
 use Rattle.kernwords.specs.declared.report.Report.{Report}
 
--- a book: its plan, blocks, slots and how many keys it holds, and then a line for each block
-abbrev pub book_text : BookWords → List ℕ
-book_text b =
+-- the line of a book: its plan, blocks, slots and how many keys it holds
+abbrev pub heading_text : BookWords → List ℕ
+heading_text b =
     codes "q " ++ (decimal b.size.plan.q ++ (codes " r " ++ (decimal b.size.plan.r ++ (codes " blocks " ++ (decimal b.size.blocks
-    ++ (codes " slots " ++ (decimal (64 * b.size.blocks) ++ (codes " held " ++ (decimal b.held ++ (10 ∷ blocks_text (b.size.plan.r + 3) (vec_items b.words)))))))))))
+    ++ (codes " slots " ++ (decimal (64 * b.size.blocks) ++ (codes " held " ++ (decimal b.held ++ (10 ∷ []))))))))))
+
+-- a book: that line, and then a line for each block
+abbrev pub book_text : BookWords → List ℕ
+book_text b = heading_text b ++ blocks_text (b.size.plan.r + 3) (vec_items b.words)
 
 -- the refused lines, each with its end, and both books
 abbrev pub report_text : Report → List ℕ

@@ -8,7 +8,6 @@ mod report;
 mod sizes;
 
 use console::fault::Fault;
-use console::output::send;
 use console::program::Program;
 use console::request::Request;
 use console::text::read_text;
@@ -24,7 +23,7 @@ const KERNWORDS: Program = Program {
     arguments: "[q r blocks]",
 };
 
-/// Prints what the edits that are read make of two books that begin empty. It is put together before any of it is written, so that memory never lacks in between.
+/// Prints what the edits that are read make of two books that begin empty. All that memory is wanted for is there before the first byte of it is written.
 fn print_books<R: Read, W: Write>(
     heap: Global,
     input: &mut R,
@@ -37,8 +36,7 @@ fn print_books<R: Read, W: Write>(
     let kern = kern_size(request)?;
     let text = read_text(heap, input)?;
     let report = report_of(heap, kern, text.as_slice())?;
-    let shown = format!(in heap; "{report}")?;
-    send(out, shown.as_bytes())
+    report.send(out)
 }
 
 fn main(rt: HostRuntime) -> ExitCode {

@@ -1,6 +1,6 @@
 use Rattle.std.proofs.Common.{◌≡◌, Err, inl, refl, rules}
 use Rattle.console.specs.declared.fault.Fault.TheVariants.{Memory}
-use Rattle.kernwords.specs.Reports.{Shown}
+use Rattle.kernwords.specs.Reports.{report_text, Shown}
 use Rattle.kernwords.proofs.Printing.{unprinted, printed}
 use Rattle.kernwords.proofs.print_books.Goals as goal
 
@@ -14,14 +14,9 @@ returns-in_err-report g c =
     let why : c.from_residual-in_err-report.result ≡ Err Memory = search rules in
     rw why (unprinted _ _ _ c.in_ok-text.ensures.in_order c.in_ok-kern.kern _ c.in_ok-kern.ensures Memory (inl refl))
 
-pub returns-in_err-shown : goal.returns-in_err-shown
-returns-in_err-shown g c =
-    let why : c.from_residual-in_err-shown.result ≡ Err Memory = search rules in
-    rw why (unprinted _ _ _ c.in_ok-text.ensures.in_order c.in_ok-kern.kern _ c.in_ok-kern.ensures Memory (inl refl))
-
 pub returns : goal.returns
 returns g c =
-    let shown : Shown c.args.request (g.R.Read.remaining c.args.input.now) (g.R.Read.remaining c.read_text.new.input) c.as_bytes.result.now =
+    let shown : Shown c.args.request (g.R.Read.remaining c.args.input.now) (g.R.Read.remaining c.read_text.new.input) (report_text c.in_ok-report.report) =
     record {
       size = c.in_ok-kern.kern;
       sized = c.in_ok-kern.ensures;
@@ -30,6 +25,6 @@ returns g c =
       all = c.in_ok-text.ensures.all;
       report = c.in_ok-report.report;
       reported = c.in_ok-report.ensures;
-      said = search rules;
+      said = refl;
     } in
-    printed _ _ _ c.in_ok-text.ensures.in_order c.as_bytes.result.now _ _ c.send.result shown c.send.ensures
+    printed _ _ _ c.in_ok-text.ensures.in_order (report_text c.in_ok-report.report) _ _ c.send.result shown c.send.ensures
