@@ -52,6 +52,7 @@ pub fn send<W: Write>(out: &mut W, text: &[u8]) -> Result<(), Fault>
     if text.is_empty() {
         return Ok(());
     }
+    // what `send_rest` gives is told anew, so that where the first write takes all no result goes through memory
     match out.write(text) {
         Ok(n) if n == text.len() => Ok(()),
         Ok(0) => Err(Fault::Stream),

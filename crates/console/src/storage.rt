@@ -45,11 +45,9 @@ fn spaced(word: u64) -> [u8; 17]
 {
     let mut text = [b' '; 17];
     let mut left = word;
-    let mut at = 16;
-    while at > 0 {
-        text[at] = digit((left % 16) as u8);
+    for at in (0..16).rev() {
+        text[at + 1] = digit((left % 16) as u8);
         left /= 16;
-        at -= 1;
     }
     text
 }

@@ -1,4 +1,4 @@
-use Rattle.std.proofs.Common.{◌≡◌, ◌+◌, ◌∷◌, ◌++◌, ◌-◌, ◌/◌, ◌%◌, suc, false, set, take, drop, length-set, sym, ap, ap₂, ◌∙◌, arith, take-append-drop}
+use Rattle.std.proofs.Common.{◌≡◌, ℕ, ◌≤◌, ◌+◌, [], ◌∷◌, ◌++◌, ◌-◌, ◌/◌, ◌%◌, suc, false, length, set, take, drop, length-set, sym, ap, ap₂, ◌∙◌, subst, arith, take-append-drop}
 use Rattle.std.proofs.lemmas.List.{drop-set, take-set-le}
 use Rattle.console.proofs.Printed.{low_digits, low_none, low_more, low_word}
 use Rattle.std.specs.Fmt.{digit_glyph}
@@ -15,7 +15,10 @@ loop-at-preserved c =
     let written = set text at c.digit.result in
     let first : take 1 written ≡ take 1 text = take-set-le 1 text at c.digit.result (omega arith) in
     let more = same ∙ ap (λ k. low_digits k c.loop-at.left (drop (at + 1) text)) (sym next) ∙ low_more (at - 1) c.loop-at.left (drop (at + 1) text) in
-    let put : digit_glyph false (c.loop-at.left % 16) ∷ drop (at + 1) text ≡ drop (at - 1 + 1) written = ap (λ d. d ∷ drop (at + 1) text) (sym c.digit.ensures) ∙ sym (drop-set text at c.digit.result (omega arith)) ∙ ap (λ k. drop k written) (sym here) in (
+    let put : digit_glyph false (c.loop-at.left % 16) ∷ drop (at + 1) text ≡ drop (at - 1 + 1) written = ap (λ d. d ∷ drop (at + 1) text) (sym c.digit.ensures) ∙ sym (drop-set text at c.digit.result (omega arith)) ∙ ap (λ k. drop k written) (sym here) in
+    let after = λ (i : ℕ). (at - 1 ≤ 16) × (length (set text i c.digit.result) ≡ 17) × (take 1 (set text i c.digit.result) ≡ 32 ∷ [])
+    × (low_digits 16 c.args.word [] ≡ low_digits (at - 1) (c.loop-at.left / 16) (drop (at - 1 + 1) (set text i c.digit.result))) in
+    subst after (sym here) (
       omega arith,
       length-set text at c.digit.result ∙ long,
       first ∙ front,

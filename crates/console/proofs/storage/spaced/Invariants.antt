@@ -5,6 +5,3 @@ use Rattle.console.proofs.storage.spaced.Given as goal
 abbrev pub invariant-loop-at : goal.invariant-loop-at
 invariant-loop-at l =
     (l.at ≤ 16) × (length l.text ≡ 17) × (take 1 l.text ≡ 32 ∷ []) × (low_digits 16 l.word [] ≡ low_digits l.at l.left (drop (l.at + 1) l.text))
-
-abbrev pub decreases-loop-at : goal.decreases-loop-at
-decreases-loop-at l = l.at
